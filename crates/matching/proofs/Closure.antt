@@ -1,4 +1,4 @@
--- The blocked slots: n rounds of adding the openSlots of every order that sits in a slot of the set give what the order reaches.
+-- The blocked slots: n rounds of adding the open slots of every order that sits in a slot of the set give what the order reaches.
 use mathlib.Core.Path.{_≡_, refl, sym, ap, _∙_, subst}
 use mathlib.Core.Bool.{Bool, true, false, not, _&&_, _||_, cond}
 use mathlib.Core.Logic.{_⊎_, inl, inr, _≢_, _↔_}

@@ -1,4 +1,4 @@
--- Hall's side: more orders confined to a set than it has places leave no plan; what a blocked order reaches is such a set, and the least indicator.
+-- Hall's side: more orders confined to a set than it has places leave no plan; what a blocked order reaches is such a set, and the least one.
 use mathlib.Core.Path.{_≡_, refl, sym, ap, _∙_, subst}
 use mathlib.Core.Bool.{Bool, true, false, not, _||_}
 use mathlib.Core.Logic.{_⊎_, inl, inr, _↔_}

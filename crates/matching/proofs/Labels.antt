@@ -1,4 +1,4 @@
--- Labels that upward by at most indicator along a list filter an order with no slot below n away from every slot labelled 0.
+-- Labels that rise by at most one along a list keep an order with no slot below n away from every slot labelled 0.
 use mathlib.Core.Path.{_≡_, refl, sym, ap, _∙_, subst}
 use mathlib.Core.Bool.{Bool, true, false, not}
 use mathlib.Core.Logic.{_≢_}
@@ -34,7 +34,7 @@ below f l (suc k) h =
 pub pigeon : (f : ℕ → ℕ) (l : List ℕ) (k : ℕ) → ((v : ℕ) → v ≤ k → Takes f l v) → k < length l
 pigeon f l k h = omega (arith, below f l k h, countIf-le (λ s. leb (f s) k) l)
 
--- no order in a slot has a choice whose label is more than indicator lower
+-- no order in a slot has a choice whose label is more than one lower
 abbrev pub Gentle : List Seat → (ℕ → ℕ) → Type 0
 Gentle ss label = (p : Seat) (t : ℕ) → Mem p ss → Mem t (openSlots (p .who)) → label (p .slot) ≤ suc (label t)
 

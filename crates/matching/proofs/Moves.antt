@@ -38,9 +38,9 @@ sum-strict f g h (there {x = s} {xs = l} k) lt = omega (arith, h s (here refl), 
 abbrev pub total : ℕ → Board → ℕ
 total n b = sum (b .label) (slots n)
 
--- ---- a good board, with room for indicator order in a slot
+-- ---- a good board, with room for one order in a slot
 
--- an order that can be asked for: it has indicator to eight openSlots, all slots of the board
+-- an order that can be asked for: it has one to eight open slots, all slots of the board
 pub record Ready (n : ℕ) (x : Order) : Type 0 where
   pub named : 1 ≤ x .number
   pub few : length (x .list) ≤ 8
@@ -67,7 +67,7 @@ pick-mine n lab {x} r = pick-member lab (openSlots x) (r .has)
 pub pick-in : (n : ℕ) (lab : ℕ → ℕ) {x : Order} → Ready n x → Mem (pick lab (openSlots x)) (slots n)
 pick-in n lab {x} r = r .inside (pick lab (openSlots x)) (pick-mine n lab r)
 
--- ---- indicator move: x goes into its pick v
+-- ---- one move: x goes into its pick v
 
 pub record Moving (n : ℕ) (b b′ : Board) (v : ℕ) (x : Order) : Type 0 where
   pub held-at : b′ .held v ≡ x ∷ []

@@ -86,7 +86,7 @@ leastOther-ge lab v m [] k h f = h
 leastOther-ge lab v m (t ∷ l) k h f =
     leastOther-ge lab v (cond (eqb t v) m (min m (lab t))) l k (lower-ge (eqb t v) m (lab t) k h (f t (here refl))) (λ u i. f u (there i))
 
--- ---- the new label: at most n, at most indicator more than any other choice's, and above the old indicator where that was the least
+-- ---- the new label: at most n, at most one more than any other choice's, and above the old one where that was the least
 
 pub newLabel-le : (n : ℕ) (lab : ℕ → ℕ) (v : ℕ) (l : List ℕ) → newLabel n lab v l ≤ n
 unfolding newLabel

@@ -45,7 +45,7 @@ pub seatOf : List Seat → ℕ → ℕ
 seatOf [] k = 0
 seatOf (p ∷ ps) k = let rest = seatOf ps k in cond (eqb (p .who .number) k) (p .slot) rest
 
-countIf-pos : {A : Type 0} (P : A → Bool) {l : List A} {a : A} → Mem a l → T (P a) → 1 ≤ countIf P l
+pub countIf-pos : {A : Type 0} (P : A → Bool) {l : List A} {a : A} → Mem a l → T (P a) → 1 ≤ countIf P l
 countIf-pos P (here {x = b} e) t = omega (arith, indicator-of (P b) (subst (λ c. T (P c)) e t))
 countIf-pos P (there m) t = omega (arith, countIf-pos P m t)
 
@@ -65,7 +65,7 @@ slot-found (q ∷ ss) u p (there m) =
     )))
     ∙ slot-found ss (λ k. omega (arith, u k)) p m
 
-same-all : (os os′ : List Order) (P : Order → Bool) → SameOrders os os′ → T (all P os) → T (all P os′)
+pub same-all : (os os′ : List Order) (P : Order → Bool) → SameOrders os os′ → T (all P os) → T (all P os′)
 same-all os os′ P s t = all-of P os′ (λ o m. go o m (dec-T (P o)))
   where
     go : (o : Order) → Mem o os′ → T (P o) ⊎ T (not (P o)) → T (P o)

@@ -24,7 +24,7 @@ pub reach-in : (n : ℕ) (b : Board) (x : Order) → Good n b → Ready n x → 
 reach-in n b x g r {t} (start m) = r .inside t m
 reach-in n b x g r {t} (next p k m i) = let w = of-seat (b .held) (slots n) m in (g .ready (p .slot) (p .who) (w .0) (w .1)) .inside t i
 
--- no slot that x reaches is settled
+-- no slot that x reaches is free
 abbrev pub Blocked : ℕ → Board → Order → Type 0
 Blocked n b x = (s : ℕ) → Reach (seats n b) x s → 1 ≤ length (b .held s)
 

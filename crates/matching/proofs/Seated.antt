@@ -68,7 +68,7 @@ countIf-seats-same P h h′ [] e = refl
 countIf-seats-same P h h′ (s ∷ l) e =
     omega (arith, countIf-slot P h s l, countIf-slot P h′ s l, countIf-held (λ o. P (seat o s)) (e s (here refl)), countIf-seats-same P h h′ l (λ t m. e t (there m)))
 
--- indicator slot's orders change: those that it had are no longer counted, and those that it has are
+-- one slot's orders change: those that it had are no longer counted, and those that it has are
 abbrev Moved : (Seat → Bool) → (ℕ → List Order) → (ℕ → List Order) → ℕ → ℕ → Type 0
 Moved P h h′ n v = countIf P (seatsOf h′ (slots n)) + countIf (λ o. P (seat o v)) (h v) ≡ countIf P (seatsOf h (slots n)) + countIf (λ o. P (seat o v)) (h′ v)
 

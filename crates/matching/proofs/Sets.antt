@@ -1,4 +1,4 @@
--- Laws of the tests over a list and of the lists that they filter.
+-- Laws of the tests over a list and of the lists that they keep.
 use mathlib.Core.Path.{_≡_, refl, sym, ap, _∙_, subst}
 use mathlib.Core.Bool.{Bool, true, false, not, _&&_, _||_, cond}
 use mathlib.Core.Logic.{_⊎_, inl, inr, _≢_, _↔_}
@@ -7,7 +7,7 @@ use Prim.Native.Nat.{ℕ, zero, suc, _+_, _*_, _≤_, _<_}
 use native.Mathlib.Omega.{arith}
 use native.Mathlib.Decide.{decLe}
 use lib.ListN.{length}
-use lib.Dec.{T, eqb, eqb→eq, ltb, leb, ltb→lt, leb→le, not-T, T-not}
+use lib.Dec.{T, eqb, eqb→eq, ltb, leb, ltb→lt, leb→le, lt→ltb, le→leb, not-T, T-not}
 use Rattle.matching.specs.Lists.{member, all, any, filter, upward, rising}
 use Rattle.matching.proofs.Counting.{of-member, or-l, or-r, or-cases, and-l, and-r, and-i, Distinct}
 
@@ -81,3 +81,14 @@ filter-once P i (suc k) = go (P (suc i)) (filter-once P (suc i) k)
     go true u = (not-T (member (suc i) (filter P (upward (suc i) k))) (λ t. omega (arith, upward-range (suc i) k ((of-filter P (upward (suc i) k) (of-member (suc i) (filter P (upward (suc i) k)) t)) .0))), u)
     go false u = u
 
+-- what is left of 1 .. n rises
+pub filter-rising : (P : ℕ → Bool) (n p i k : ℕ) → p ≤ i → i + k ≤ n → T (rising n p (filter P (upward i k)))
+filter-rising P n p i zero h f = tt
+filter-rising P n p i (suc k) h f = go (P (suc i)) (filter-rising P n (suc i) (suc i) k (omega arith) (omega arith)) (filter-rising P n p (suc i) k (omega arith) (omega arith))
+  where
+    go : (q : Bool) → T (rising n (suc i) (filter P (upward (suc i) k))) → T (rising n p (filter P (upward (suc i) k)))
+        → T (rising n p (cond q (suc i ∷ filter P (upward (suc i) k)) (filter P (upward (suc i) k))))
+    go true a b =
+        and-i (ltb p (suc i) && leb (suc i) n) (rising n (suc i) (filter P (upward (suc i) k)))
+        (and-i (ltb p (suc i)) (leb (suc i) n) (lt→ltb p (suc i) (omega arith)) (le→leb (suc i) n (omega arith))) a
+    go false a b = b

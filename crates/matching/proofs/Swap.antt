@@ -6,7 +6,7 @@ use Prim.Native.Nat.{ℕ}
 use Rattle.matching.specs.Orders.{Order, openSlots, Seat, seat}
 use Rattle.matching.proofs.Seats.{Reach, start, next}
 
--- indicator step of the search, as seats: ss without y in v and with x in v is ss′
+-- one step of the search, as seats: ss without y in v and with x in v is ss′
 pub record Swapped (ss ss′ : List Seat) (x y : Order) (v : ℕ) : Type 0 where
   pub mine : Mem v (openSlots x)
   pub yours : Mem v (openSlots y)

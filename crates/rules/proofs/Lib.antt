@@ -1,0 +1,11 @@
+pub mod WordLaws
+pub mod CheckLaws
+pub mod Accept
+pub mod Withdraw
+pub mod Opening
+pub mod Decide
+pub mod History
+pub mod Checks
+pub mod Steps
+pub mod Judging
+pub mod Main

@@ -1,0 +1,5 @@
+pub mod Layout
+pub mod Check
+pub mod Calls
+pub mod Ledger
+pub mod Demand3
