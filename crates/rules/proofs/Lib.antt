@@ -9,3 +9,5 @@ pub mod Checks
 pub mod Steps
 pub mod Judging
 pub mod Main
+pub mod Cases
+pub mod Example

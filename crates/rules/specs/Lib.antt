@@ -3,3 +3,9 @@ pub mod Check
 pub mod Calls
 pub mod Ledger
 pub mod Demand3
+pub mod Text
+pub mod Lines
+pub mod Answers
+pub mod Runs
+pub mod Cases
+pub mod Example
