@@ -1,27 +1,35 @@
 -- The pick is in the list and has the least label there; the new label.
 use mathlib.Core.Path.{_≡_, refl, sym, ap, _∙_, subst}
-use mathlib.Core.Bool.{Bool, true, false, not, cond}
+use mathlib.Core.Bool.{Bool, true, false, not, cond, _&&_}
 use mathlib.Core.Logic.{_⊎_, inl, inr, _≢_}
 use mathlib.Core.List.{List, [], _∷_, List·Memᴰ as Mem, List·Memᴰ·head as here, List·Memᴰ·tail as there}
 use Prim.Native.Nat.{ℕ, zero, suc, _+_, _≤_, _<_, min}
 use native.Mathlib.Omega.{arith}
 use native.Mathlib.Decide.{decLt}
-use lib.Dec.{T, eqb, ltb, eqb→eq, eqb-refl, ltb→lt, nltb→le, not-T, T-not}
-use Rattle.matching.specs.Placing.{pickFrom, pick, leastOther, newLabel}
+use lib.Dec.{T, eqb, ltb, leb, eqb→eq, eqb-refl, ltb→lt, nltb→le, not-T, T-not}
+use Rattle.matching.specs.Lists.{rising}
+use Rattle.matching.proofs.Counting.{and-l, and-r, cond-yes}
+use Rattle.matching.specs.Placing.{better, pickFrom, pick, leastOther, newLabel}
+
+better-lt : (lab : ℕ → ℕ) (t u : ℕ) → T (better lab t u) → lab t < lab u
+better-lt lab t u h = ltb→lt (lab t) (lab u) h
+
+not-better : (lab : ℕ → ℕ) (t u : ℕ) → T (not (better lab t u)) → lab u ≤ lab t
+not-better lab t u h = nltb→le (lab t) (lab u) h
 
 -- the better of two, by a test that says which
 better-le : (lab : ℕ → ℕ) (t u : ℕ) (b : Bool) → (T b → lab t < lab u) → (T (not b) → lab u ≤ lab t) → (lab (cond b t u) ≤ lab t) × (lab (cond b t u) ≤ lab u)
 better-le lab t u true f g = let h = f tt in omega arith
 better-le lab t u false f g = let h = g tt in omega arith
 
-better-indicator : (t u : ℕ) (b : Bool) → (cond b t u ≡ t) ⊎ (cond b t u ≡ u)
-better-indicator t u true = inl refl
-better-indicator t u false = inr refl
+better-one : (t u : ℕ) (b : Bool) → (cond b t u ≡ t) ⊎ (cond b t u ≡ u)
+better-one t u true = inl refl
+better-one t u false = inr refl
 
 pub pickFrom-member : (lab : ℕ → ℕ) (u : ℕ) (l : List ℕ) → Mem (pickFrom lab u l) (u ∷ l)
 unfolding pickFrom
 pickFrom-member lab u [] = here refl
-pickFrom-member lab u (t ∷ l) = go (pickFrom-member lab (cond (ltb (lab t) (lab u)) t u) l) (better-indicator t u (ltb (lab t) (lab u)))
+pickFrom-member lab u (t ∷ l) = go (pickFrom-member lab (cond (better lab t u) t u) l) (better-one t u (better lab t u))
   where
     go : {w v : ℕ} → Mem w (v ∷ l) → (v ≡ t) ⊎ (v ≡ u) → Mem w (u ∷ t ∷ l)
     go (here e) (inl q) = there (here (e ∙ q))
@@ -32,13 +40,13 @@ pub pickFrom-le : (lab : ℕ → ℕ) (u : ℕ) (l : List ℕ) {s : ℕ} → Mem
 unfolding pickFrom
 pickFrom-le lab u [] (here e) = omega (arith, ap lab e)
 pickFrom-le lab u [] (there m) = elim m [ ]
-pickFrom-le lab u (t ∷ l) {s} m = go (λ r i. pickFrom-le lab (cond (ltb (lab t) (lab u)) t u) l {s = r} i) m
+pickFrom-le lab u (t ∷ l) {s} m = go (λ r i. pickFrom-le lab (cond (better lab t u) t u) l {s = r} i) m
   where
     c : ℕ
-    c = cond (ltb (lab t) (lab u)) t u
+    c = cond (better lab t u) t u
 
     both : (lab c ≤ lab t) × (lab c ≤ lab u)
-    both = better-le lab t u (ltb (lab t) (lab u)) (ltb→lt (lab t) (lab u)) (nltb→le (lab t) (lab u))
+    both = better-le lab t u (better lab t u) (better-lt lab t u) (not-better lab t u)
 
     go : ((r : ℕ) → Mem r (c ∷ l) → lab (pickFrom lab c l) ≤ lab r) → Mem s (u ∷ t ∷ l) → lab (pickFrom lab c l) ≤ lab s
     go rest (here e) = omega (arith, ap lab e, both .1, rest c (here refl))
@@ -54,6 +62,36 @@ pub pick-le : (lab : ℕ → ℕ) (l : List ℕ) {s : ℕ} → Mem s l → lab (
 unfolding pick
 pick-le lab [] m = elim m [ ]
 pick-le lab (t ∷ l) m = pickFrom-le lab t l m
+
+-- "at a tie the lowest slot number wins": u is the best so far, and l rises from p on
+tie-from : (lab : ℕ → ℕ) (n u p : ℕ) (l : List ℕ) → u ≤ p → T (rising n p l) → {s : ℕ} → Mem s (u ∷ l) → lab s ≡ lab (pickFrom lab u l) → pickFrom lab u l ≤ s
+unfolding pickFrom
+tie-from lab n u p [] le r (here e) q = omega arith
+tie-from lab n u p [] le r (there m) q = elim m [ ]
+tie-from lab n u p (t ∷ l) le r {s} m q =
+    go (better lab t u) (better-lt lab t u) (not-better lab t u) (λ c h i m′ e. tie-from lab n c t l h rest {s = i} m′ e) (λ c. pickFrom-le lab c l (here refl)) m q
+  where
+    up : p < t
+    up = ltb→lt p t (and-l (ltb p t) (leb t n) (and-l (ltb p t && leb t n) (rising n t l) r))
+
+    rest : T (rising n t l)
+    rest = and-r (ltb p t && leb t n) (rising n t l) r
+
+    go : (b : Bool) → (T b → lab t < lab u) → (T (not b) → lab u ≤ lab t)
+        → ((c : ℕ) → c ≤ t → (i : ℕ) → Mem i (c ∷ l) → lab i ≡ lab (pickFrom lab c l) → pickFrom lab c l ≤ i)
+        → ((c : ℕ) → lab (pickFrom lab c l) ≤ lab c)
+        → Mem s (u ∷ t ∷ l) → lab s ≡ lab (pickFrom lab (cond b t u) l) → pickFrom lab (cond b t u) l ≤ s
+    go true lt ge ih low (here e) eq = absurd (omega (arith, lt tt, ap lab e, low t))
+    go true lt ge ih low (there (here e)) eq = ih t (omega arith) s (here e) eq
+    go true lt ge ih low (there (there k)) eq = ih t (omega arith) s (there k) eq
+    go false lt ge ih low (here e) eq = ih u (omega (arith, up)) s (here e) eq
+    go false lt ge ih low (there (here e)) eq = let h = ih u (omega (arith, up)) u (here refl) (omega (arith, ge tt, ap lab e, low u)) in omega (arith, up)
+    go false lt ge ih low (there (there k)) eq = ih u (omega (arith, up)) s (there k) eq
+
+pub pick-tie : (lab : ℕ → ℕ) (n : ℕ) (l : List ℕ) → T (rising n 0 l) → {s : ℕ} → Mem s l → lab s ≡ lab (pick lab l) → pick lab l ≤ s
+unfolding pick
+pick-tie lab n [] r m q = elim m [ ]
+pick-tie lab n (t ∷ l) r m q = tie-from lab n t t l (omega arith) (and-r (ltb 0 t && leb t n) (rising n t l) r) m q
 
 -- ---- the least of the others
 
@@ -119,3 +157,8 @@ leastOther-who lab v m (u ∷ l) h = go (decLt (leastOther lab v (acc (eqb u v))
     go : Dec (leastOther lab v (acc (eqb u v)) l < acc (eqb u v)) → (leastOther lab v (acc (eqb u v)) l < acc (eqb u v) → Found l) → (b : Bool) → eqb u v ≡ b → Found (u ∷ l)
     go (yes k) rest b e = let r = rest k in (r .0, there (r .1), r .2, r .3)
     go (no k) rest b e = head b e (omega arith)
+
+-- "with no other choice it becomes n"
+pub newLabel-alone : (n : ℕ) (lab : ℕ → ℕ) (v : ℕ) → newLabel n lab v (v ∷ []) ≡ n
+unfolding newLabel leastOther
+newLabel-alone n lab v = omega (arith, cond-yes (eqb v v) n (min n (lab v)) (eqb-refl v))

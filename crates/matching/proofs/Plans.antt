@@ -8,21 +8,9 @@ use native.Mathlib.Omega.{arith}
 use lib.Dec.{T, eqb, eqb→eq, eqb-refl, not-T, T-not}
 use Rattle.matching.specs.Lists.{countIf, member, all}
 use Rattle.matching.specs.Orders.{Order, openSlots, Seat, seat, SameOrders, orders, sameNumber, Plan}
-use Rattle.matching.proofs.Counting.{indicator-of, dec-T, cond-yes, cond-no, countIf-map, countIf-mono, countIf-none, countIf-append, member-of, of-member}
+use Rattle.matching.proofs.Counting.{indicator-of, dec-T, cond-yes, cond-no, countIf-map, countIf-mono, countIf-none, member-of, of-member}
 use Rattle.matching.proofs.Seats.{sitsIn, SeatPlan}
 use Rattle.matching.proofs.Sets.{all-at, all-of}
-
--- fewer orders, the same plan
-pub fewer : (c : ℕ) (os more : List Order) → Plan c (os ++ more) → Plan c os
-fewer c os more p = record {
-  slotOf = p .slotOf;
-  own = all-of (λ o. member (p .slotOf o) (openSlots o)) os (λ o m. all-at (λ o. member (p .slotOf o) (openSlots o)) (os ++ more) (p .own) (left os m));
-  apart = λ s. omega (arith, p .apart s, countIf-append (λ o. eqb (p .slotOf o) s) os more);
-}
-  where
-    left : (os : List Order) {o : Order} → Mem o os → Mem o (os ++ more)
-    left os (here e) = here e
-    left os (there m) = there (left _ m)
 
 pub to-seats : (c : ℕ) (os : List Order) → Plan c os → SeatPlan c os
 to-seats c os p = record {

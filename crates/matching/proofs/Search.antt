@@ -10,7 +10,7 @@ use lib.ListN.{length}
 use lib.Dec.{T, leb, leb→le, nleb→lt}
 use Rattle.matching.specs.Lists.{countIf, slots}
 use Rattle.matching.specs.Orders.{Order, openSlots, Seat, SameOrders, orders, Board, seats}
-use Rattle.matching.specs.Placing.{pick, Result, accepted, refused, unfinished, Turn, stuck, settled, displaced, into, turn, after, seek, place}
+use Rattle.matching.specs.Placing.{pick, Result, accepted, refused, unfinished, Turn, tooHigh, stuck, settled, displaced, into, turn, after, seek, place}
 use Rattle.matching.proofs.Counting.{countIf-le, countIf-map, dec-T, cond-yes, cond-no}
 use Rattle.matching.proofs.Labels.{Gentle, no-free}
 use Rattle.matching.proofs.Moves.{total, total-le, Ready, Good, Moving, more, good, swapped, pick-in}
@@ -52,7 +52,7 @@ module _ {B : Type 0} (view : B → Board) (write : B → ℕ → Order → B) (
 
   turned : (b : B) (x : Order) → Turned b x (turn view write n b x)
   unfolding turn
-  turned b x = go (dec-T (leb n ((view b) .label v)))
+  turned b x = go (dec-T (tooHigh n ((view b) .label v)))
     where
       v : ℕ
       v = pick ((view b) .label) (openSlots x)
@@ -61,9 +61,9 @@ module _ {B : Type 0} (view : B → Board) (write : B → ℕ → Order → B) (
       held [] e h = is-free h e
       held (y ∷ ys) e h = is-pushed ys h e
 
-      go : T (leb n ((view b) .label v)) ⊎ T (not (leb n ((view b) .label v))) → Turned b x (cond (leb n ((view b) .label v)) stuck (into (write b v x) ((view b) .held v)))
-      go (inl t) = subst (λ (τ : Turn B). Turned b x τ) (sym (cond-yes (leb n ((view b) .label v)) stuck (into (write b v x) ((view b) .held v)) t)) (is-none (leb→le n ((view b) .label v) t))
-      go (inr t) = subst (λ (τ : Turn B). Turned b x τ) (sym (cond-no (leb n ((view b) .label v)) stuck (into (write b v x) ((view b) .held v)) t)) (held ((view b) .held v) refl (nleb→lt n ((view b) .label v) t))
+      go : T (tooHigh n ((view b) .label v)) ⊎ T (not (tooHigh n ((view b) .label v))) → Turned b x (cond (tooHigh n ((view b) .label v)) stuck (into (write b v x) ((view b) .held v)))
+      go (inl t) = subst (λ (τ : Turn B). Turned b x τ) (sym (cond-yes (tooHigh n ((view b) .label v)) stuck (into (write b v x) ((view b) .held v)) t)) (is-none (leb→le n ((view b) .label v) t))
+      go (inr t) = subst (λ (τ : Turn B). Turned b x τ) (sym (cond-no (tooHigh n ((view b) .label v)) stuck (into (write b v x) ((view b) .held v)) t)) (held ((view b) .held v) refl (nleb→lt n ((view b) .label v) t))
 
   module _ (Ok : B → Type 0)
       (writes : (b : B) (x : Order) (v : ℕ) → Ok b → Ready n x → Mem v (slots n) → Ok (write b v x) × Moving n (view b) (view (write b v x)) v x) where

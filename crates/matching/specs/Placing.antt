@@ -6,9 +6,12 @@ use lib.Dec.{eqb, ltb, leb}
 use Rattle.matching.specs.Orders.{Order, openSlots, Board}
 
 -- "looks at its list for the least label; at a tie the lowest slot number wins": of a rising list the first with the least label
+abbrev pub better : (ℕ → ℕ) → ℕ → ℕ → Bool
+better lab t best = ltb (lab t) (lab best)
+
 unfoldable pub pickFrom : (ℕ → ℕ) → ℕ → List ℕ → ℕ
 pickFrom lab best [] = best
-pickFrom lab best (t ∷ l) = pickFrom lab (cond (ltb (lab t) (lab best)) t best) l
+pickFrom lab best (t ∷ l) = pickFrom lab (cond (better lab t best) t best) l
 
 unfoldable pub pick : (ℕ → ℕ) → List ℕ → ℕ
 unfolding pickFrom
@@ -48,14 +51,18 @@ after rest k stuck = refused
 after rest k (settled b) = accepted b (suc k)
 after rest k (displaced b y) = rest b y
 
+-- "Least label n or more: no slot can be found."
+abbrev pub tooHigh : ℕ → ℕ → Bool
+tooHigh n least = leb n least
+
 module _ {B : Type 0} (view : B → Board) (write : B → ℕ → Order → B) (n : ℕ) where
-  -- "Least label n or more: no slot can be found. Otherwise the order goes into that slot"
+  -- "Otherwise the order goes into that slot"
   unfoldable pub turn : B → Order → Turn B
   unfolding pick
   turn b x =
       let v = pick ((view b) .label) (openSlots x) in
       let go : Turn B = into (write b v x) ((view b) .held v) in
-      cond (leb n ((view b) .label v)) stuck go
+      cond (tooHigh n ((view b) .label v)) stuck go
 
   -- the search with at most so many turns, after k moves
   unfoldable pub seek : ℕ → B → Order → ℕ → Result B
