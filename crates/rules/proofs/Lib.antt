@@ -11,3 +11,8 @@ pub mod Judging
 pub mod Main
 pub mod Cases
 pub mod Example
+pub mod Cutting
+pub mod Streams
+pub mod TextLaws
+pub mod Replies
+pub mod Days

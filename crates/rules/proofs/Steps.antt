@@ -55,7 +55,7 @@ stay q w bk r i e t = record {
 pub same-cons : (os os′ : List Order) (y : Order) → SameOrders os os′ → SameOrders (y ∷ os) (y ∷ os′)
 same-cons os os′ y s P = ap (λ (i : ℕ). indicator (P y) + i) (s P)
 
-acts-open : (n : ℕ) (w work : List ℕ) (bk : Ledger) → first (openChecks n w) ≡ 0 → Stepped (open-board n) w bk (act (open-board n) w work)
+pub acts-open : (n : ℕ) (w work : List ℕ) (bk : Ledger) → first (openChecks n w) ≡ 0 → Stepped (open-board n) w bk (act (open-board n) w work)
 unfolding act
 acts-open n w work bk e =
     let fails = clear-all (openChecks n w) tt e in
@@ -98,7 +98,7 @@ acts-print : (w work : List ℕ) (bk : Ledger) → Inv w bk → Stepped print w 
 unfolding act
 acts-print w work bk i = record { inv = i; run = λ _. (omega arith, refl) }
 
-acts : (q : Call) (w work : List ℕ) (bk : Ledger) → Inv w bk → first (checks q w work) ≡ 0 → Stepped q w bk (act q w work)
+pub acts : (q : Call) (w work : List ℕ) (bk : Ledger) → Inv w bk → first (checks q w work) ≡ 0 → Stepped q w bk (act q w work)
 acts (open-board n) w work bk i e = acts-open n w work bk e
 acts (accept k c row) w work bk i e = acts-accept k c row w work bk i e
 acts (withdraw k) w work bk i e = acts-withdraw k w work bk i e

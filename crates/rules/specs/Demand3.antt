@@ -47,14 +47,14 @@ pub record Judged (bk : Ledger) (w : List ℕ) (k c : ℕ) (row work : List ℕ)
 abbrev pub seatedOn : List ℕ → Order → Bool
 seatedOn w o = any (λ s. eqb (numberAt w s) (o .number) && member s (openSlots o)) (slots (size w))
 
--- What holds of a list of calls from the board w.
-pub record Kept (w : List ℕ) (qs : List Asked) : Type 0 where
+-- What holds of a list of calls from the board w that left the board w′.
+pub record Kept (w : List ℕ) (qs : List Asked) (w′ : List ℕ) : Type 0 where
   -- "After the list the board passes the check, word 0 is the book's n and the board holds the book's orders exactly, each once, in a slot of its list."
-  pub sound : T (passes (boardAfter w qs))
-  pub sized : size (boardAfter w qs) ≡ (ledgerAfter w qs) .size
-  pub exact : SameOrders (held (boardAfter w qs)) ((ledgerAfter w qs) .orders)
+  pub sound : T (passes w′)
+  pub sized : size w′ ≡ (ledgerAfter w qs) .size
+  pub exact : SameOrders (held w′) ((ledgerAfter w qs) .orders)
   pub once : (k : ℕ) → countIf (sameNumber k) ((ledgerAfter w qs) .orders) ≤ 1
-  pub seated : T (all (seatedOn (boardAfter w qs)) ((ledgerAfter w qs) .orders))
+  pub seated : T (all (seatedOn w′) ((ledgerAfter w qs) .orders))
   -- each order of the list: "The orders held at a call are those in the book just before it."
   pub judged : (before later : List Asked) (k c : ℕ) (row work : List ℕ) → qs ≡ before ++ record { call = accept k c row; work = work } ∷ later
       → Judged (ledgerAfter w before) (boardAfter w before) k c row work (step (accept k c row) (boardAfter w before) work)
@@ -64,4 +64,4 @@ pub record Kept (w : List ℕ) (qs : List Asked) : Type 0 where
 
 -- "A list of them has any length, none too, and any of them may be refused. It starts from any board that passes the check".
 unfoldable pub Demand3 : Type 0
-Demand3 = (w : List ℕ) (qs : List Asked) → T (passes w) → Kept w qs
+Demand3 = (w : List ℕ) (qs : List Asked) → T (passes w) → Kept w qs (boardAfter w qs)

@@ -7,5 +7,8 @@ pub mod Text
 pub mod Lines
 pub mod Answers
 pub mod Runs
+pub mod Days
+pub mod Blocks
+pub mod Feeding
 pub mod Cases
 pub mod Example

@@ -2,12 +2,12 @@
 use mathlib.Core.Bool.{Bool, true, false, cond}
 use mathlib.Core.List.{List, [], _∷_, _++_, map}
 use Prim.Native.Nat.{ℕ, zero, suc, _+_, min}
-use lib.Dec.{eqb}
-use lib.ListN.{getD, replicate}
+use lib.Dec.{eqb, leb}
+use lib.ListN.{length, getD, replicate}
 use Rattle.rules.specs.Layout.{mostSlots, boardWords, workWords, heldCount}
 use Rattle.rules.specs.Calls.{Answer, step}
 use Rattle.rules.specs.Ledger.{Asked, ok}
-use Rattle.rules.specs.Lines.{letterP, letterOf, values, lineRefusal, callOf}
+use Rattle.rules.specs.Lines.{letterP, mostBytes, letterOf, values, lineRefusal, callOf}
 use Rattle.rules.specs.Text.{lineFeed}
 use Rattle.rules.specs.Answers.{printed, letterX, letterN, Reply, replyText}
 
@@ -72,22 +72,23 @@ unfoldable pub restFrom : List ℕ → List ℕ → List ℕ
 restFrom held [] = held
 restFrom held (b ∷ bs) = cond (eqb b lineFeed) (restFrom [] bs) (restFrom (held ++ (b ∷ [])) bs)
 
+-- a line that is to be read, or one that gets refusal 1 unread
 pub data Item : Type 0 where
-  ended : List ℕ → Item
-  unended : Item
+  line : List ℕ → Item
+  spoilt : Item
 
--- "An unended last line" is one item; an empty rest is none
+-- "An unended last line and one with more than 61 bytes before its line feed get one refusal 1 each."
+abbrev pub framed : List ℕ → Item
+framed l = cond (leb (length l) mostBytes) (line l) spoilt
+
+-- an empty rest is no line
 abbrev pub lastOf : List ℕ → List Item
 lastOf [] = []
-lastOf (b ∷ r) = unended ∷ []
+lastOf (b ∷ r) = spoilt ∷ []
 
 unfoldable pub items : List ℕ → List Item
 unfolding linesFrom restFrom
-items file = map ended (linesFrom [] file) ++ lastOf (restFrom [] file)
-
-abbrev pub handle : Item → State → Handled
-handle (ended l) s = handleLine l s
-handle unended s = unread 1 s
+items file = map framed (linesFrom [] file) ++ lastOf (restFrom [] file)
 
 -- ---- the run
 
@@ -96,15 +97,22 @@ pub record Out : Type 0 where
   pub text : List ℕ
   pub state : State
 
+abbrev pub outOf : Handled → Out
+outOf h = record { text = replyText (h .reply) (h .state .board) (h .state .work); state = h .state }
+
+abbrev pub handleItem : Item → State → Handled
+handleItem (line l) s = handleLine l s
+handleItem spoilt s = unread 1 s
+
+abbrev pub handle : State → Item → Out
+handle s i = outOf (handleItem i s)
+
 abbrev pub before : List ℕ → Out → Out
 before t o = record { text = t ++ o .text; state = o .state }
 
-abbrev pub textOf : Handled → List ℕ
-textOf h = replyText (h .reply) (h .state .board) (h .state .work)
-
 unfoldable pub run : State → List Item → Out
 run s [] = record { text = []; state = s }
-run s (i ∷ is) = before (textOf (handle i s)) (run (handle i s .state) is)
+run s (i ∷ is) = before (handle s i .text) (run (handle s i .state) is)
 
 -- "At the end N: lines, accepted, refused."
 unfoldable pub tallyLine : Counts → List ℕ
@@ -129,9 +137,9 @@ start = record {
 -- ---- the calls that the lines make: what demand 3 speaks of
 
 abbrev pub asks : Item → State → List Asked
-asks (ended l) s = let q : List Asked = record { call = callOf (letterOf l) (values l); work = s .work } ∷ [] in cond (eqb (lineRefusal l) 0) q []
-asks unended s = []
+asks (line l) s = let q : List Asked = record { call = callOf (letterOf l) (values l); work = s .work } ∷ [] in cond (eqb (lineRefusal l) 0) q []
+asks spoilt s = []
 
 unfoldable pub callsOf : State → List Item → List Asked
 callsOf s [] = []
-callsOf s (i ∷ is) = asks i s ++ callsOf (handle i s .state) is
+callsOf s (i ∷ is) = asks i s ++ callsOf (handle s i .state) is

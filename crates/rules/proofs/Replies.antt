@@ -1,0 +1,158 @@
+-- How long an answer is with the lines that follow it: never above `replyRoom`.
+use mathlib.Core.Path.{_≡_, refl, sym, ap, _∙_, subst}
+use mathlib.Core.Bool.{Bool, true, false, not, _&&_, cond}
+use mathlib.Core.Logic.{_⊎_, inl, inr, _≢_}
+use mathlib.Core.List.{List, [], _∷_, _++_}
+use Prim.Native.Nat.{ℕ, zero, suc, _+_, _-_, _*_, _/_, _≤_, _<_}
+use native.Mathlib.Omega.{arith}
+use native.Mathlib.Nat.{div-le-of-le-mul}
+use lib.Dec.{T, eqb, ltb, eqb→eq, T-not, eqb-refl}
+use lib.ListN.{length, take, drop, length-append, length-take}
+use Rattle.matching.specs.Lists.{filter, upward}
+use Rattle.matching.specs.Orders.{seats}
+use Rattle.matching.specs.Placing.{Result, accepted, refused, unfinished, place}
+use Rattle.matching.specs.Blocking.{blocked, rounds}
+use Rattle.matching.proofs.Counting.{dec-T, and-l, and-r}
+use Rattle.rules.specs.Layout.{workWords, size, numberAt, labelAt, view, writeAt}
+use Rattle.rules.specs.Check.{passes}
+use Rattle.rules.specs.Calls.{Call, open-board, accept, withdraw, print, order, Answer, Check, first, shortFor, boardChecks, orderChecks, isHeld, checks, finished, act, refuse, step}
+use Rattle.rules.specs.Ledger.{ok, ledgerOf}
+use Rattle.rules.specs.Lines.{letterP, letterOf, values, lineRefusal, callOf}
+use Rattle.rules.specs.Answers.{printed, letterK, letterL, blockedFrom, blockedLines, slotsFrom, slotLines, Reply, replyText}
+use Rattle.rules.specs.Runs.{State, Item, line, spoilt, Handled, handleLine, answered as answeredBy, unread, handleItem, handle}
+use Rattle.rules.specs.Blocks.{replyRoom}
+use Rattle.rules.proofs.CheckLaws.{Passed, passed-of}
+use Rattle.rules.proofs.Checks.{un-not}
+use Rattle.rules.proofs.Steps.{Inv, Stepped, Answered, does, refuses, answered, acts, acts-open}
+use Rattle.rules.proofs.TextLaws.{length-textLine}
+
+-- ---- the K lines and the L lines
+
+length-blocked : (k : ℕ) (l : List ℕ) → length (blockedFrom k l) ≤ 82 * k
+unfolding blockedFrom
+length-blocked zero l = omega arith
+length-blocked (suc k) l =
+    omega (
+      arith,
+      length-append (printed letterK (take 8 l)) (blockedFrom k (drop 8 l)),
+      length-textLine 10 letterK (take 8 l),
+      length-take 8 l,
+      length-blocked k (drop 8 l),
+    )
+
+pub length-slots : (w : List ℕ) (k s : ℕ) → length (slotsFrom w k s) ≡ 32 * k
+unfolding slotsFrom
+length-slots w zero s = refl
+length-slots w (suc k) s =
+    omega (
+      arith,
+      length-append (printed letterL (s ∷ numberAt w s ∷ labelAt w s ∷ [])) (slotsFrom w k (s + 1)),
+      length-textLine 10 letterL (s ∷ numberAt w s ∷ labelAt w s ∷ []),
+      length-slots w k (s + 1),
+    )
+
+-- ---- the replies that calls get
+
+length-filter : (P : ℕ → Bool) (l : List ℕ) → length (filter P l) ≤ length l
+length-filter P [] = omega arith
+length-filter P (s ∷ l) = go (P s) (length-filter P l)
+  where
+    go : (b : Bool) → length (filter P l) ≤ length l → length (cond b (s ∷ filter P l) (filter P l)) ≤ suc (length l)
+    go true h = omega arith
+    go false h = omega arith
+
+length-upward : (i k : ℕ) → length (upward i k) ≡ k
+length-upward i zero = refl
+length-upward i (suc k) = ap suc (length-upward (suc i) k)
+
+second-clear : (a b : ℕ) (p q : Bool) (cs : List Check) → 1 ≤ a → 1 ≤ b → first ((a, p) ∷ (b, q) ∷ cs) ≡ 0 → T (not q)
+second-clear a b true q cs h k e = absurd (omega arith)
+second-clear a b false true cs h k e = absurd (omega arith)
+second-clear a b false false cs h k e = tt
+
+board-passes : (w work : List ℕ) (more : List Check) → first (boardChecks w work more) ≡ 0 → T (passes w)
+board-passes w work more e =
+    un-not (passes w) (second-clear 4 5 (shortFor (size w) w) (not (passes w)) ((6, ltb (length work) (workWords (size w))) ∷ more) (omega arith) (omega arith) e)
+
+pub inv-start : (w : List ℕ) → T (passes w) → Inv w (ledgerOf w)
+inv-start w t = record { passed = passed-of w t; size = refl; same = λ P. refl }
+
+-- a 12 names at most 1,024 slots, and an accepted call leaves a board of a good size
+record Modest (r : Answer) : Type 0 where
+  few : r .refusal ≡ 12 → r .count ≤ 1024
+  sized : r .refusal ≡ 0 → size (r .board) ≤ 1024
+
+few-blocked : (k c : ℕ) (row w work : List ℕ) → T (passes w) → (act (accept k c row) w work) .refusal ≡ 12 → (act (accept k c row) w work) .count ≤ 1024
+unfolding act finished refuse blocked
+few-blocked k c row w work t = go (place view (writeAt (size w)) (size w) w (order k c row))
+  where
+    go : (q : Result (List ℕ)) → (finished w work (order k c row) q) .refusal ≡ 12 → (finished w work (order k c row) q) .count ≤ 1024
+    go (accepted w′ m) e = absurd (omega arith)
+    go refused e =
+        omega (
+          arith,
+          length-filter (rounds (seats (size w) (view w)) (order k c row) (size w)) (upward 0 (size w)),
+          length-upward 0 (size w),
+          (passed-of w t) .big,
+        )
+    go unfinished e = omega arith
+
+modest-act : (q : Call) (w work : List ℕ) → first (checks q w work) ≡ 0 → Modest (act q w work)
+unfolding act
+modest-act (open-board n) w work e = record { few = λ q. absurd (omega arith); sized = λ q. (acts-open n w work (ledgerOf w) e) .inv .passed .big }
+modest-act (accept k c row) w work e =
+    let t = board-passes w work (orderChecks (size w) k c row ((11, isHeld k w) ∷ [])) e in
+    record { few = few-blocked k c row w work t; sized = λ q. (acts (accept k c row) w work (ledgerOf w) (inv-start w t) e) .inv .passed .big }
+modest-act (withdraw k) w work e =
+    let t = board-passes w work ((7, eqb k 0) ∷ (13, not (isHeld k w)) ∷ []) e in
+    record { few = λ q. absurd (omega arith); sized = λ q. (acts (withdraw k) w work (ledgerOf w) (inv-start w t) e) .inv .passed .big }
+modest-act print w work e = record { few = λ q. absurd (omega arith); sized = λ q. (passed-of w (board-passes w work [] e)) .big }
+
+modest : (q : Call) (w work : List ℕ) → Modest (step q w work)
+unfolding refuse
+modest q w work = go (answered q w work)
+  where
+    go : {r : Answer} → Answered q w work r → Modest r
+    go (does e) = modest-act q w work e
+    go (refuses ne) = record { few = λ q. omega arith; sized = λ e. absurd (ne e) }
+
+-- ---- the text
+
+text-fits : (r : Reply) (w work : List ℕ) → (r .refusal ≡ 12 → r .count ≤ 1024) → (r .refusal ≡ 0 → size w ≤ 1024) → length (replyText r w work) ≤ replyRoom
+unfolding replyText
+text-fits r w work few sized =
+    omega (
+      arith,
+      length-append (printed (r .letter) (r .number ∷ r .refusal ∷ r .count ∷ []))
+          (cond (eqb (r .refusal) 12) (blockedLines (take (r .count) work)) (cond (eqb (r .letter) letterP && eqb (r .refusal) 0) (slotLines w) [])),
+      length-textLine 10 (r .letter) (r .number ∷ r .refusal ∷ r .count ∷ []),
+      after (eqb (r .refusal) 12) (λ t. few (eqb→eq (r .refusal) 12 t)) (eqb (r .letter) letterP && eqb (r .refusal) 0)
+          (λ t. sized (eqb→eq (r .refusal) 0 (and-r (eqb (r .letter) letterP) (eqb (r .refusal) 0) t))),
+    )
+  where
+    after : (a : Bool) → (T a → r .count ≤ 1024) → (b : Bool) → (T b → size w ≤ 1024) → length (cond a (blockedLines (take (r .count) work)) (cond b (slotLines w) [])) ≤ 32768
+    after true h b k =
+        let l : List ℕ = take (r .count) work in
+        omega (arith, h tt, length-blocked ((length l + 7) / 8) l, length-take (r .count) work, div-le-of-le-mul 8 {m = length l + 7} {n = 129} (omega (arith, h tt, length-take (r .count) work)))
+    after false h true k = omega (arith, k tt, length-slots w (size w) 1)
+    after false h false k = omega arith
+
+-- a line is read and asks its call, or it is not
+pub by-reading : (P : Handled → Type 0) (l : List ℕ) (s : State)
+    → (lineRefusal l ≡ 0 → P (answeredBy (letterOf l) (values l) s (step (callOf (letterOf l) (values l)) (s .board) (s .work))))
+    → (lineRefusal l ≢ 0 → P (unread (lineRefusal l) s)) → P (handleLine l s)
+unfolding handleLine
+by-reading P l s f g = go (eqb (lineRefusal l) 0) (eqb→eq (lineRefusal l) 0) (λ n e. T-not (eqb (lineRefusal l) 0) n (subst (λ (k : ℕ). T (eqb k 0)) (sym e) (eqb-refl 0)))
+  where
+    go : (b : Bool) → (T b → lineRefusal l ≡ 0) → (T (not b) → lineRefusal l ≢ 0) → P (cond b (answeredBy (letterOf l) (values l) s (step (callOf (letterOf l) (values l)) (s .board) (s .work))) (unread (lineRefusal l) s))
+    go true h k = f (h tt)
+    go false h k = g (k tt)
+
+-- every answer fits the room that a block keeps for it
+pub handle-fits : (s : State) (i : Item) → length (handle s i .text) ≤ replyRoom
+handle-fits s spoilt = text-fits _ (s .board) (s .work) (λ e. absurd (omega arith)) (λ e. absurd (omega arith))
+handle-fits s (line l) =
+    by-reading (λ h. length (replyText (h .reply) (h .state .board) (h .state .work)) ≤ replyRoom) l s
+    (λ e. let r = step (callOf (letterOf l) (values l)) (s .board) (s .work) in
+    text-fits _ (r .board) (r .work) (modest (callOf (letterOf l) (values l)) (s .board) (s .work) .few) (modest (callOf (letterOf l) (values l)) (s .board) (s .work) .sized))
+    (λ n. text-fits _ (s .board) (s .work) (λ e. omega arith) (λ e. absurd (n e)))
