@@ -9,9 +9,10 @@ use Rattle.rules.specs.Calls.{step}
 use Rattle.rules.specs.Ledger.{Asked, boardAfter}
 use Rattle.rules.specs.Demand3.{Kept, Demand3}
 use Rattle.rules.specs.Lines.{letterOf, values, lineRefusal, callOf}
-use Rattle.rules.specs.Runs.{State, Item, line, spoilt, handleLine, answered, unread, handle, run, asks, callsOf}
+use Rattle.rules.specs.Runs.{State, Out, Item, line, spoilt, handleLine, answered, unread, handle, run, asks, callsOf}
 use Rattle.rules.specs.Days.{KeptByLines}
 use Rattle.rules.proofs.Main.{demand3}
+use Rattle.rules.proofs.Streams.{run-join}
 
 -- one line: the board after the call that it makes, if it makes one
 asks-board : (i : Item) (s : State) (qs : List Asked) → boardAfter (s .board) (asks i s ++ qs) ≡ boardAfter (handle s i .state .board) qs
@@ -30,15 +31,10 @@ unfolding callsOf run
 calls-board s [] = refl
 calls-board s (i ∷ is) = asks-board i s (callsOf (handle s i .state) is) ∙ calls-board (handle s i .state) is
 
-pub run-append : (s : State) (is js : List Item) → run s (is ++ js) .state ≡ run (run s is .state) js .state
-unfolding run
-run-append s [] js = refl
-run-append s (i ∷ is) js = run-append (handle s i .state) is js
-
 pub kept-by-lines : (s : State) (is : List Item) → KeptByLines s is (run s is .state .board)
 unfolding Demand3
 kept-by-lines s is before later e t =
     let s₁ = run s before .state in
     let left : boardAfter (s₁ .board) (callsOf s₁ later) ≡ run s is .state .board =
-    calls-board s₁ later ∙ ap (λ (z : State). z .board) (sym (run-append s before later)) ∙ ap (λ (js : List Item). run s js .state .board) (sym e) in
+    calls-board s₁ later ∙ ap (λ (o : Out). o .state .board) (sym (run-join s before later)) ∙ ap (λ (js : List Item). run s js .state .board) (sym e) in
     subst (λ (w : List ℕ). Kept (s₁ .board) (callsOf s₁ later) w) left (demand3 (s₁ .board) (callsOf s₁ later) t)

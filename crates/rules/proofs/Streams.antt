@@ -10,7 +10,7 @@ use lib.Seq.{drop-append-add, drop-length}
 use lib.Dec.{leb}
 use borrow.Author.Tests.{leb-true, leb-false, le-leb, lt-leb}
 use Rattle.rules.specs.Runs.{State, Out, Item, spoilt, handle}
-use Rattle.rules.specs.Runs.{linesFrom, framed, lastOf, items}
+use Rattle.rules.specs.Runs.{linesFrom, restFrom, framed, lastOf, items}
 use Rattle.rules.specs.Runs.{before, run, tallyLine, closed, fileText}
 use Rattle.rules.specs.Blocks.{replyRoom, waiting, Portion, nothing, joined, lastPortion, ending, portion, block}
 use Rattle.rules.specs.Feeding.{Piece, Fed, feedAll, given, Honest}
@@ -19,7 +19,7 @@ use Rattle.rules.proofs.Cutting.{Clean, Cut, tail, cons, cut, either, l
 -- one line of a block
 module _ (room : ℕ) (ended : Bool) (s : State) (l ys : List ℕ) (c : Clean l) where
   pub block-line : replyRoom ≤ room
-      → block room ended s (l ++ (10 ∷ ys)) ≡ joined (length l + 1) (handle s (framed l)) (block (room - length (handle s (framed l) .text)) ended (handle s (framed l) .state) ys)
+      → block room ended s (l ++ (10 ∷ ys)) ≡ joined (length l + 1) (framed l) (handle s (framed l)) (block (room - length (handle s (framed l) .text)) ended (handle s (framed l) .state) ys)
   unfolding portion
   block-line h = rw (lines-line l ys c, rest-line l ys c, le-leb replyRoom room h)
 
@@ -37,39 +37,83 @@ drop-line l ys k =
     let e : length l + 1 + k ≡ length l + suc k = omega arith in
     rw e (drop-append-add l (10 ∷ ys) (suc k))
 
--- a block of x, with y to come after it, as a step of the whole
-Step : State → List ℕ → List ℕ → Portion → Type 0
-Step s x y p = run s (items (x ++ y)) ≡ before (p .text) (run (p .state) (items (drop (p .used) x ++ y)))
+-- ---- the lines that a block answers are the first of the text, whatever comes after it
 
-step-last : (room : ℕ) (s : State) (r : List ℕ) → Clean r → Step s r [] (lastPortion room s r)
-unfolding Step run
-step-last room s [] c = refl
-step-last room s (b ∷ r) c =
+Took : List ℕ → List ℕ → Portion → Type 0
+Took x y p = items (x ++ y) ≡ p .lines ++ items (drop (p .used) x ++ y)
+
+took-last : (room : ℕ) (s : State) (r : List ℕ) → Clean r → Took r [] (lastPortion room s r)
+unfolding Took
+took-last room s [] c = refl
+took-last room s (b ∷ r) c =
     either (leb replyRoom room)
-    (λ e. rw (e, append-nil, items-none (b ∷ r) c, add-zero, drop-length, append-nil) (rw (items-nil, append-nil)))
+    (λ e. rw (e, append-nil, items-none (b ∷ r) c, add-zero, drop-length, append-nil) (rw items-nil))
     (λ e. rw e)
 
-step-rest : (room : ℕ) (ended : Bool) (s : State) (r y : List ℕ) → Clean r → (ended ≡ true → y ≡ []) → Step s r y (ending room ended s r)
-unfolding Step
-step-rest room true s r y c h = rw (h refl) (step-last room s r c)
-step-rest room false s r y c h = ap (run s) (items-trim r y c)
+took-rest : (room : ℕ) (ended : Bool) (s : State) (r y : List ℕ) → Clean r → (ended ≡ true → y ≡ []) → Took r y (ending room ended s r)
+unfolding Took
+took-rest room true s r y c h = rw (h refl) (took-last room s r c)
+took-rest room false s r y c h = items-trim r y c
 
-step-cut : (room : ℕ) (ended : Bool) (s : State) (x y : List ℕ) → Cut x → (ended ≡ true → y ≡ []) → Step s x y (block room ended s x)
-unfolding Step run
-step-cut room ended s x y (tail r c) h = rw (block-rest room ended s r c) (step-rest room ended s r y c h)
-step-cut room ended s x y (cons l ys c d) h =
+took-cut : (room : ℕ) (ended : Bool) (s : State) (x y : List ℕ) → Cut x → (ended ≡ true → y ≡ []) → Took x y (block room ended s x)
+unfolding Took
+took-cut room ended s x y (tail r c) h = rw (block-rest room ended s r c) (took-rest room ended s r y c h)
+took-cut room ended s x y (cons l ys c d) h =
     let o = handle s (framed l) in
     let p = block (room - length (o .text)) ended (o .state) ys in
     either (leb replyRoom room)
     (λ e. rw (block-line room ended s l ys c (leb-true replyRoom room e), append-assoc l (10 ∷ ys) y, items-line l (ys ++ y) c, drop-line l ys (p .used))
-    (ap (before (o .text)) (step-cut (room - length (o .text)) ended (o .state) ys y d h) ∙ ap (λ (t : List ℕ). record { text = t; state = run (p .state) (items (drop (p .used) ys ++ y)) .state }) (sym (append-assoc (o .text) (p .text) _))))
+    (ap (λ (is : List Item). framed l ∷ is) (took-cut (room - length (o .text)) ended (o .state) ys y d h)))
     (λ e. rw (block-full room ended s l ys c (leb-false replyRoom room e)))
+
+pub block-lines : (room : ℕ) (ended : Bool) (s : State) (x y : List ℕ) → (ended ≡ true → y ≡ [])
+    → items (x ++ y) ≡ block room ended s x .lines ++ items (drop (block room ended s x .used) x ++ y)
+unfolding Took
+block-lines room ended s x y h = took-cut room ended s x y (cut x) h
+
+-- ---- and its text and state are those of their run
+
+Ran : State → Portion → Type 0
+Ran s p = run s (p .lines) ≡ record { text = p .text; state = p .state }
+
+ran-last : (room : ℕ) (s : State) (r : List ℕ) → Ran s (lastPortion room s r)
+unfolding Ran run
+ran-last room s [] = refl
+ran-last room s (b ∷ r) = either (leb replyRoom room) (λ e. rw e) (λ e. rw e)
+
+ran-rest : (room : ℕ) (ended : Bool) (s : State) (r : List ℕ) → Ran s (ending room ended s r)
+unfolding Ran run
+ran-rest room true s r = ran-last room s r
+ran-rest room false s r = refl
+
+ran : (room : ℕ) (ended : Bool) (s : State) (ls : List (List ℕ)) (r : List ℕ) → Ran s (portion room ended s ls r)
+unfolding Ran run portion
+ran room ended s [] r = ran-rest room ended s r
+ran room ended s (l ∷ ls) r =
+    let o = handle s (framed l) in
+    either (leb replyRoom room)
+    (λ e. rw e (ap (before (o .text)) (ran (room - length (o .text)) ended (o .state) ls r)))
+    (λ e. rw e)
+
+pub block-run : (room : ℕ) (ended : Bool) (s : State) (x : List ℕ) → run s (block room ended s x .lines) ≡ record { text = block room ended s x .text; state = block room ended s x .state }
+unfolding Ran
+block-run room ended s x = ran room ended s (linesFrom [] x) (restFrom [] x)
+
+pub run-join : (s : State) (is js : List Item) → run s (is ++ js) ≡ before (run s is .text) (run (run s is .state) js)
+unfolding run
+run-join s [] js = refl
+run-join s (i ∷ is) js =
+    let o = handle s i in
+    let rest = run (run (o .state) is .state) js in
+    ap (before (o .text)) (run-join (o .state) is js) ∙ ap (λ (t : List ℕ). record { text = t; state = rest .state }) (sym (append-assoc (o .text) (run (o .state) is .text) (rest .text)))
 
 -- a block of x, with y to come after it: what it wrote, and then the run of what it left
 pub block-step : (room : ℕ) (ended : Bool) (s : State) (x y : List ℕ) → (ended ≡ true → y ≡ [])
     → run s (items (x ++ y)) ≡ before (block room ended s x .text) (run (block room ended s x .state) (items (drop (block room ended s x .used) x ++ y)))
-unfolding Step
-block-step room ended s x y h = step-cut room ended s x y (cut x) h
+block-step room ended s x y h =
+    let p = block room ended s x in
+    let later = items (drop (p .used) x ++ y) in
+    ap (run s) (block-lines room ended s x y h) ∙ run-join s (p .lines) later ∙ ap (λ (o : Out). before (o .text) (run (o .state) later)) (block-run room ended s x)
 
 -- after any pieces: what they wrote, and then the run of what is left
 pub feedAll-step : (s : State) (wait : List ℕ) (cs : List Piece) → Honest cs

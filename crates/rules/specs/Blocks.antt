@@ -15,35 +15,36 @@ replyRoom = 32800
 abbrev pub waiting : ℕ
 waiting = mostBytes + 1
 
--- how many bytes of the input a block used up, what it wrote, and the state after it
+-- how many bytes of the input a block used up, the lines that it answered, what it wrote, and the state after it
 pub record Portion : Type 0 where
   pub used : ℕ
+  pub lines : List Item
   pub text : List ℕ
   pub state : State
 
 abbrev pub nothing : State → Portion
-nothing s = record { used = 0; text = []; state = s }
+nothing s = record { used = 0; lines = []; text = []; state = s }
 
--- n bytes of input answered by o, then the portion p
-abbrev pub joined : ℕ → Out → Portion → Portion
-joined n o p = record { used = n + p .used; text = o .text ++ p .text; state = p .state }
+-- n bytes of input, the line i, answered by o, and then the portion p
+abbrev pub joined : ℕ → Item → Out → Portion → Portion
+joined n i o p = record { used = n + p .used; lines = i ∷ p .lines; text = o .text ++ p .text; state = p .state }
 
 -- the input's end, r unended: one refusal, or nothing for an empty r
 abbrev pub lastPortion : ℕ → State → List ℕ → Portion
 lastPortion room s [] = nothing s
-lastPortion room s (b ∷ r) = cond (leb replyRoom room) (joined (length (b ∷ r)) (handle s spoilt) (nothing (handle s spoilt .state))) (nothing s)
+lastPortion room s (b ∷ r) = cond (leb replyRoom room) (joined (length (b ∷ r)) spoilt (handle s spoilt) (nothing (handle s spoilt .state))) (nothing s)
 
 -- what is done with the unended r: before the input's end it waits, but of a line that is too long already only the last bytes do
 abbrev pub ending : ℕ → Bool → State → List ℕ → Portion
 ending room true s r = lastPortion room s r
-ending room false s r = record { used = length r - waiting; text = []; state = s }
+ending room false s r = record { used = length r - waiting; lines = []; text = []; state = s }
 
 -- each line in turn, until there is too little room for one more answer
 unfoldable pub portion : ℕ → Bool → State → List (List ℕ) → List ℕ → Portion
 portion room ended s [] r = ending room ended s r
 portion room ended s (l ∷ ls) r =
     cond (leb replyRoom room)
-    (joined (length l + 1) (handle s (framed l))
+    (joined (length l + 1) (framed l) (handle s (framed l))
     (portion (room - length (handle s (framed l) .text)) ended (handle s (framed l) .state) ls r))
     (nothing s)
 
