@@ -77,10 +77,10 @@ board-passes w work more e =
 pub inv-start : (w : List ℕ) → T (passes w) → Inv w (ledgerOf w)
 inv-start w t = record { passed = passed-of w t; size = refl; same = λ P. refl }
 
--- a 12 names at most 1,024 slots, and an accepted call leaves a board of a good size
-record Modest (r : Answer) : Type 0 where
-  few : r .refusal ≡ 12 → r .count ≤ 1024
-  sized : r .refusal ≡ 0 → size (r .board) ≤ 1024
+-- a 12 names at most 1,024 slots, and an accepted call leaves a board that passes the check
+pub record Modest (r : Answer) : Type 0 where
+  pub few : r .refusal ≡ 12 → r .count ≤ 1024
+  pub passed : r .refusal ≡ 0 → Passed (r .board)
 
 few-blocked : (k c : ℕ) (row w work : List ℕ) → T (passes w) → (act (accept k c row) w work) .refusal ≡ 12 → (act (accept k c row) w work) .count ≤ 1024
 unfolding act finished refuse blocked
@@ -99,22 +99,22 @@ few-blocked k c row w work t = go (place view (writeAt (size w)) (size w) w (ord
 
 modest-act : (q : Call) (w work : List ℕ) → first (checks q w work) ≡ 0 → Modest (act q w work)
 unfolding act
-modest-act (open-board n) w work e = record { few = λ q. absurd (omega arith); sized = λ q. (acts-open n w work (ledgerOf w) e) .inv .passed .big }
+modest-act (open-board n) w work e = record { few = λ q. absurd (omega arith); passed = λ q. (acts-open n w work (ledgerOf w) e) .inv .passed }
 modest-act (accept k c row) w work e =
     let t = board-passes w work (orderChecks (size w) k c row ((11, isHeld k w) ∷ [])) e in
-    record { few = few-blocked k c row w work t; sized = λ q. (acts (accept k c row) w work (ledgerOf w) (inv-start w t) e) .inv .passed .big }
+    record { few = few-blocked k c row w work t; passed = λ q. (acts (accept k c row) w work (ledgerOf w) (inv-start w t) e) .inv .passed }
 modest-act (withdraw k) w work e =
     let t = board-passes w work ((7, eqb k 0) ∷ (13, not (isHeld k w)) ∷ []) e in
-    record { few = λ q. absurd (omega arith); sized = λ q. (acts (withdraw k) w work (ledgerOf w) (inv-start w t) e) .inv .passed .big }
-modest-act print w work e = record { few = λ q. absurd (omega arith); sized = λ q. (passed-of w (board-passes w work [] e)) .big }
+    record { few = λ q. absurd (omega arith); passed = λ q. (acts (withdraw k) w work (ledgerOf w) (inv-start w t) e) .inv .passed }
+modest-act print w work e = record { few = λ q. absurd (omega arith); passed = λ q. passed-of w (board-passes w work [] e) }
 
-modest : (q : Call) (w work : List ℕ) → Modest (step q w work)
+pub modest : (q : Call) (w work : List ℕ) → Modest (step q w work)
 unfolding refuse
 modest q w work = go (answered q w work)
   where
     go : {r : Answer} → Answered q w work r → Modest r
     go (does e) = modest-act q w work e
-    go (refuses ne) = record { few = λ q. omega arith; sized = λ e. absurd (ne e) }
+    go (refuses ne) = record { few = λ q. omega arith; passed = λ e. absurd (ne e) }
 
 -- ---- the text
 
@@ -148,11 +148,16 @@ by-reading P l s f g = go (eqb (lineRefusal l) 0) (eqb→eq (lineRefusal l) 0) (
     go true h k = f (h tt)
     go false h k = g (k tt)
 
+-- a line that is accepted leaves a board that passes the check
+pub reply-sound : (s : State) (l : List ℕ) → (handleLine l s) .reply .refusal ≡ 0 → Passed ((handleLine l s) .state .board)
+reply-sound s l = by-reading (λ h. h .reply .refusal ≡ 0 → Passed (h .state .board)) l s (λ e. modest (callOf (letterOf l) (values l)) (s .board) (s .work) .passed) (λ n e. absurd (n e))
+
 -- every answer fits the room that a block keeps for it
 pub handle-fits : (s : State) (i : Item) → length (handle s i .text) ≤ replyRoom
 handle-fits s spoilt = text-fits _ (s .board) (s .work) (λ e. absurd (omega arith)) (λ e. absurd (omega arith))
 handle-fits s (line l) =
     by-reading (λ h. length (replyText (h .reply) (h .state .board) (h .state .work)) ≤ replyRoom) l s
     (λ e. let r = step (callOf (letterOf l) (values l)) (s .board) (s .work) in
-    text-fits _ (r .board) (r .work) (modest (callOf (letterOf l) (values l)) (s .board) (s .work) .few) (modest (callOf (letterOf l) (values l)) (s .board) (s .work) .sized))
+    let m = modest (callOf (letterOf l) (values l)) (s .board) (s .work) in
+    text-fits _ (r .board) (r .work) (m .few) (λ q. m .passed q .big))
     (λ n. text-fits _ (s .board) (s .work) (λ e. omega arith) (λ e. absurd (n e)))
