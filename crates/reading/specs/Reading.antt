@@ -1,0 +1,64 @@
+-- A line as the reader gives it: its kind and numbers, or the refusal of document 01's table. Bytes are without the line feed.
+use mathlib.Core.Bool.{Bool, true, false, cond}
+use mathlib.Core.List.{List, [], _∷_, _++_}
+use Prim.Native.Nat.{ℕ}
+use lib.Dec.{eqb}
+use lib.ListN.{take, replicate}
+use Rattle.rules.specs.Answers.{letterX}
+use Rattle.rules.specs.Lines.{letterS, letterA, letterW, letterP, letterOf, columnCount, allowed, values, lineRefusal}
+use Rattle.reading.specs.declared.Kind.{Kind}
+use Rattle.reading.specs.declared.Kind.the-variants.{Open, Accept, Withdraw, Print, Malformed, TooLarge}
+use Rattle.reading.specs.declared.Line.{Line}
+
+-- ---- the document's numbers and letters of every kind
+
+abbrev pub kindRefusal : Kind → ℕ
+kindRefusal Open = 0
+kindRefusal Accept = 0
+kindRefusal Withdraw = 0
+kindRefusal Print = 0
+kindRefusal Malformed = 1
+kindRefusal TooLarge = 2
+
+-- the letter of the line's answer: "X for refusals 1 and 2"
+abbrev pub kindLetter : Kind → ℕ
+kindLetter Open = letterS
+kindLetter Accept = letterA
+kindLetter Withdraw = letterW
+kindLetter Print = letterP
+kindLetter Malformed = letterX
+kindLetter TooLarge = letterX
+
+-- ---- and back
+
+abbrev pub kindOf : ℕ → Kind
+kindOf letter =
+    cond (eqb letter letterS) Open
+    (cond (eqb letter letterA) Accept
+    (cond (eqb letter letterW) Withdraw
+    (cond (eqb letter letterP) Print Malformed)))
+
+abbrev pub refusedAs : ℕ → Kind
+refusedAs refusal = cond (eqb refusal 1) Malformed TooLarge
+
+-- "Each letter has its own allowed count of columns"
+abbrev pub classOf : ℕ → ℕ → Kind
+classOf letter count = cond (allowed letter count) (kindOf letter) Malformed
+
+-- ---- the line
+
+-- "A has one to ten": a line's numbers travel as ten, unused ones 0
+abbrev pub mostColumns : ℕ
+mostColumns = 10
+
+abbrev pub tenColumns : List ℕ → List ℕ
+tenColumns vs = take mostColumns (vs ++ replicate mostColumns 0)
+
+abbrev pub refusedLine : Kind → Line
+refusedLine kind = record { kind = kind; count = 0; columns = replicate mostColumns 0 }
+
+unfoldable pub lineOf : List ℕ → Line
+lineOf l =
+    let read : Line = record { kind = kindOf (letterOf l); count = columnCount l; columns = tenColumns (values l) } in
+    let code = lineRefusal l in
+    cond (eqb code 0) read (refusedLine (refusedAs code))

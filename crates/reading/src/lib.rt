@@ -1,0 +1,310 @@
+// A line from the printers: its bytes, without the line feed, as a kind and up to ten numbers, or as refusal 1 or 2.
+ghost use mathlib.Core.Path.{_≡_};
+ghost use mathlib.Core.Bool.{true};
+ghost use mathlib.Core.List.{_∷_};
+ghost use Prim.Native.Nat.{_-_, _*_, _≤_};
+ghost use lib.ListN.{length, take, drop, getD, replicate};
+ghost use Rattle.rules.specs.Lines.{columnBytes};
+ghost use Rattle.reading.specs.Reading.{kindRefusal, kindLetter, classOf, refusedLine, lineOf, mostColumns};
+ghost use Rattle.reading.specs.Machine.{stepOf, heldBy, ended, cellOf, columnsAt, capped, gathered};
+
+// What a line is: one of the four that are known, or refused by 1 or by 2.
+pub enum Kind {
+    Open,
+    Accept,
+    Withdraw,
+    Print,
+    Malformed,
+    TooLarge,
+}
+
+// A line that is refused has no columns.
+pub struct Line {
+    pub kind: Kind,
+    pub count: usize,
+    pub columns: [u16; 10],
+}
+
+// How far the reading of a column has come.
+enum State {
+    Blank,
+    Zero,
+    Number(u32),
+    Spoilt,
+}
+
+enum Cell {
+    Value(u32),
+    Unread,
+}
+
+// Columns that stand one after another: whether each is a column, and if so whether each is at most 65,535.
+struct Columns {
+    formed: bool,
+    fits: bool,
+    values: [u16; 10],
+}
+
+// Each letter has its own allowed count of columns.
+pub fn classify(letter: u8, count: usize) -> Kind
+    ensures { λ r. ⌜ r ≡ classOf letter count ⌝ }
+{
+    match letter {
+        b'S' => match count {
+            1 => Kind::Open,
+            _ => Kind::Malformed,
+        },
+        b'A' => match count {
+            1..=10 => Kind::Accept,
+            _ => Kind::Malformed,
+        },
+        b'W' => match count {
+            1 => Kind::Withdraw,
+            _ => Kind::Malformed,
+        },
+        b'P' => match count {
+            0 => Kind::Print,
+            _ => Kind::Malformed,
+        },
+        _ => Kind::Malformed,
+    }
+}
+
+// The document's number: 1 or 2 for a refused line, else 0.
+pub fn refusal(kind: Kind) -> u16
+    ensures { λ r. ⌜ r ≡ kindRefusal kind ⌝ }
+{
+    match kind {
+        Kind::Malformed => 1,
+        Kind::TooLarge => 2,
+        Kind::Open => 0,
+        Kind::Accept => 0,
+        Kind::Withdraw => 0,
+        Kind::Print => 0,
+    }
+}
+
+// The letter of the line's answer: X for a refused line.
+pub fn answer_letter(kind: Kind) -> u8
+    ensures { λ r. ⌜ r ≡ kindLetter kind ⌝ }
+{
+    match kind {
+        Kind::Open => b'S',
+        Kind::Accept => b'A',
+        Kind::Withdraw => b'W',
+        Kind::Print => b'P',
+        Kind::Malformed => b'X',
+        Kind::TooLarge => b'X',
+    }
+}
+
+// The state after one more byte. Six digits fit a u32.
+fn step(st: State, b: u8) -> State
+    requires { ⌜ heldBy st ≤ 99999 ⌝ }
+    ensures { λ r. ⌜ r ≡ stepOf st b ⌝ }
+{
+    match st {
+        State::Blank => {
+            if b == 32 {
+                return State::Blank;
+            }
+            if b == 48 {
+                return State::Zero;
+            }
+            if b < 48 {
+                return State::Spoilt;
+            }
+            if b < 58 {
+                return State::Number((b - 48) as u32);
+            }
+            State::Spoilt
+        }
+        State::Number(v) => {
+            if b < 48 {
+                return State::Spoilt;
+            }
+            if b < 58 {
+                return State::Number(v * 10 + (b - 48) as u32);
+            }
+            State::Spoilt
+        }
+        State::Zero => State::Spoilt,
+        State::Spoilt => State::Spoilt,
+    }
+}
+
+// What a column is that ended in this state.
+fn finish(st: State) -> Cell
+    ensures { λ r. ⌜ r ≡ ended st ⌝ }
+{
+    match st {
+        State::Number(v) => Cell::Value(v),
+        State::Zero => Cell::Value(0),
+        State::Blank => Cell::Unread,
+        State::Spoilt => Cell::Unread,
+    }
+}
+
+// The column that starts at `at`: Unread where its six bytes are no column or run past the end.
+fn column(s: &[u8], at: usize) -> Cell
+    ensures { λ r. ⌜ r ≡ cellOf (take columnBytes (drop at (now (s .entry)))) ⌝ }
+{
+    if s.len() < 6 {
+        return Cell::Unread;
+    }
+    if s.len() - 6 < at {
+        return Cell::Unread;
+    }
+    let mut st = State::Blank;
+    let mut i: usize = 0;
+    while i < 6 {
+        st = step(st, s[at + i]);
+        i += 1;
+    }
+    finish(st)
+}
+
+fn cap(v: u32) -> u16
+    ensures { λ r. ⌜ r ≡ capped v ⌝ }
+{
+    if 65535 < v {
+        return 0;
+    }
+    v as u16
+}
+
+// The next `count` columns from `at` on.
+fn columns_at(s: &[u8], at: usize, count: usize) -> Columns
+    requires { ⌜ (count ≤ mostColumns) × (columnBytes * count ≤ length (now s) - at) ⌝ }
+    ensures { λ r. ⌜ r ≡ gathered (replicate mostColumns 0) 0 true (columnsAt (now (s .entry)) at count) ⌝ }
+{
+    let mut values = [0u16; 10];
+    let mut fits = true;
+    let mut p = at;
+    let mut i: usize = 0;
+    while i < count {
+        let cell = column(s, p);
+        let Cell::Value(v) = cell else {
+            return Columns {
+                formed: false,
+                fits: false,
+                values: [0u16; 10],
+            };
+        };
+        if 65535 < v {
+            fits = false;
+        }
+        values[i] = cap(v);
+        p += 6;
+        i += 1;
+    }
+    Columns {
+        formed: true,
+        fits,
+        values,
+    }
+}
+
+fn refused(kind: Kind) -> Line
+    ensures { λ r. ⌜ r ≡ refusedLine kind ⌝ }
+{
+    Line {
+        kind,
+        count: 0,
+        columns: [0u16; 10],
+    }
+}
+
+fn left_after(len: usize, at: usize) -> usize
+    ensures { λ r. ⌜ r ≡ len - at ⌝ }
+{
+    if len < at {
+        return 0;
+    }
+    len - at
+}
+
+// The line of this letter whose columns are the bytes from `at` on. Its form, the whole of it, comes before its numbers.
+fn line_from(s: &[u8], at: usize, letter: u8) -> Line
+    ensures { λ r. ⌜ r ≡ lineOf (letter ∷ drop at (now (s .entry))) ⌝ }
+{
+    let left = left_after(s.len(), at);
+    if 60 < left {
+        return refused(Kind::Malformed);
+    }
+    if left % 6 != 0 {
+        return refused(Kind::Malformed);
+    }
+    let count = left / 6;
+    let kind = classify(letter, count);
+    if refusal(kind) != 0 {
+        return refused(kind);
+    }
+    let read = columns_at(s, at, count);
+    let formed = read.formed;
+    if !formed {
+        return refused(Kind::Malformed);
+    }
+    let fits = read.fits;
+    if !fits {
+        return refused(Kind::TooLarge);
+    }
+    let columns = read.values;
+    Line {
+        kind,
+        count,
+        columns,
+    }
+}
+
+// The byte at `at`, or 0 past the end.
+fn byte_at(s: &[u8], at: usize) -> u8
+    ensures { λ r. ⌜ r ≡ getD (now (s .entry)) at 0 ⌝ }
+{
+    if at < s.len() {
+        return s[at];
+    }
+    0
+}
+
+// A line's bytes, and how far the reading has come.
+pub struct LineReader<'a> {
+    pub line: &'a [u8],
+    pub at: usize,
+}
+
+pub fn start<'a>(line: &'a [u8]) -> LineReader<'a>
+    ensures { λ r. ⌜ (r .line ≡ line .entry) × (r .at ≡ 0) ⌝ }
+{
+    LineReader { line, at: 0 }
+}
+
+// The byte where the reader stands.
+pub fn letter<'a>(r: LineReader<'a>) -> u8
+    ensures { λ b. ⌜ b ≡ getD (now (r .entry .line)) (r .entry .at) 0 ⌝ }
+{
+    byte_at(r.line, r.at)
+}
+
+// The reader, come as far as `at`.
+pub fn moved<'a>(r: LineReader<'a>, at: usize) -> LineReader<'a>
+    ensures { λ q. ⌜ (q .line ≡ r .entry .line) × (q .at ≡ at) ⌝ }
+{
+    LineReader { line: r.line, at }
+}
+
+// The line of this letter whose columns are all that is left. The reader is passed by value: whatever the answer, a refusal too, the caller's own stands where it stood.
+pub fn rest<'a>(r: LineReader<'a>, letter: u8) -> Line
+    ensures { λ t. ⌜ t ≡ lineOf (letter ∷ drop (r .entry .at) (now (r .entry .line))) ⌝ }
+{
+    line_from(r.line, r.at, letter)
+}
+
+// A line, given its bytes without the line feed.
+pub fn read_line(line: &[u8]) -> Line
+    ensures { λ r. ⌜ r ≡ lineOf (now (line .entry)) ⌝ }
+{
+    let r = start(line);
+    let first = letter(r);
+    rest(moved(r, 1), first)
+}
