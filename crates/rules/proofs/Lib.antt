@@ -14,5 +14,6 @@ pub mod Example
 pub mod Cutting
 pub mod Streams
 pub mod TextLaws
+pub mod RoundTrip
 pub mod Replies
 pub mod Days

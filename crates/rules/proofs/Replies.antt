@@ -5,7 +5,6 @@ use mathlib.Core.Logic.{_⊎_, inl, inr, _≢_}
 use mathlib.Core.List.{List, [], _∷_, _++_}
 use Prim.Native.Nat.{ℕ, zero, suc, _+_, _-_, _*_, _/_, _≤_, _<_}
 use native.Mathlib.Omega.{arith}
-use native.Mathlib.Nat.{div-le-of-le-mul}
 use lib.Dec.{T, eqb, ltb, eqb→eq, T-not, eqb-refl}
 use lib.ListN.{length, take, drop, length-append, length-take}
 use Rattle.matching.specs.Lists.{filter, upward}
@@ -18,27 +17,15 @@ use Rattle.rules.specs.Check.{passes}
 use Rattle.rules.specs.Calls.{Call, open-board, accept, withdraw, print, order, Answer, Check, first, shortFor, boardChecks, orderChecks, isHeld, checks, finished, act, refuse, step}
 use Rattle.rules.specs.Ledger.{ok, ledgerOf}
 use Rattle.rules.specs.Lines.{letterP, letterOf, values, lineRefusal, callOf}
-use Rattle.rules.specs.Answers.{printed, letterK, letterL, blockedFrom, blockedLines, slotsFrom, slotLines, Reply, replyText}
+use Rattle.rules.specs.Answers.{printed, letterL, blockedLines, slotsFrom, slotLines, Reply, replyText}
 use Rattle.rules.specs.Runs.{State, Item, line, spoilt, Handled, handleLine, answered as answeredBy, unread, handleItem, handle}
 use Rattle.rules.specs.Blocks.{replyRoom}
 use Rattle.rules.proofs.CheckLaws.{Passed, passed-of}
 use Rattle.rules.proofs.Checks.{un-not}
 use Rattle.rules.proofs.Steps.{Inv, Stepped, Answered, does, refuses, answered, acts, acts-open}
-use Rattle.rules.proofs.TextLaws.{length-textLine}
+use Rattle.rules.proofs.TextLaws.{length-textLine, length-blockedLines}
 
--- ---- the K lines and the L lines
-
-length-blocked : (k : ℕ) (l : List ℕ) → length (blockedFrom k l) ≤ 82 * k
-unfolding blockedFrom
-length-blocked zero l = omega arith
-length-blocked (suc k) l =
-    omega (
-      arith,
-      length-append (printed letterK (take 8 l)) (blockedFrom k (drop 8 l)),
-      length-textLine 10 letterK (take 8 l),
-      length-take 8 l,
-      length-blocked k (drop 8 l),
-    )
+-- ---- the L lines
 
 pub length-slots : (w : List ℕ) (k s : ℕ) → length (slotsFrom w k s) ≡ 32 * k
 unfolding slotsFrom
@@ -133,7 +120,7 @@ text-fits r w work few sized =
     after : (a : Bool) → (T a → r .count ≤ 1024) → (b : Bool) → (T b → size w ≤ 1024) → length (cond a (blockedLines (take (r .count) work)) (cond b (slotLines w) [])) ≤ 32768
     after true h b k =
         let l : List ℕ = take (r .count) work in
-        omega (arith, h tt, length-blocked ((length l + 7) / 8) l, length-take (r .count) work, div-le-of-le-mul 8 {m = length l + 7} {n = 129} (omega (arith, h tt, length-take (r .count) work)))
+        omega (arith, h tt, length-blockedLines l, length-take (r .count) work)
     after false h true k = omega (arith, k tt, length-slots w (size w) 1)
     after false h false k = omega arith
 
