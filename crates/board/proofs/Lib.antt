@@ -1,0 +1,13 @@
+pub mod Lists
+pub mod Rows
+pub mod Searching
+pub mod Visiting
+pub mod Reaching
+pub mod Stores
+pub mod RowWalks
+pub mod Showing
+pub mod WorkWords
+pub mod HeldOrders
+pub mod BringingIn
+pub mod Answers
+pub mod Releasing

@@ -1,0 +1,63 @@
+use mathlib.Core.Bool.{not}
+use mathlib.Core.List.{[], _∷_}
+use mathlib.Core.Path.{refl, sym, ap, _∙_}
+use Prim.Native.Nat.{_-_}
+use lib.Dec.{eqb}
+use borrow.Author.Needs.{needs}
+use Rattle.matching.specs.Lists.{any}
+use Rattle.matching.specs.Orders.{sameNumber}
+use Rattle.rules.specs.Calls as Calls
+use Rattle.rules.specs.Layout.{word}
+use Rattle.board.specs.Carry.{heldOn}
+use Rattle.board.specs.Gates.{gateCode}
+use Rattle.board.proofs.Answers.{stop-any}
+use Rattle.board.proofs.calls.withdraw.Statement.{statement}
+use Rattle.board.proofs.calls.withdraw.Tie as tie
+
+gate-board-requires : tie.Need-gate-board-requires
+gate-board-requires c κs = search needs
+
+enum-known-g : tie.Need-enum-known-g
+enum-known-g c = search needs
+
+same-length : tie.Need-same-length
+same-length c = search needs
+
+same-length-2 : tie.Need-same-length-2
+same-length-2 c = search needs
+
+returns : tie.Need-returns
+returns c =
+    let a = c .before .before .before .before .before .before .before .before .args in
+    let g = c .before .g .given in
+    stop-any (Calls.withdraw (a .number)) (a .board .now) (a .work .now) ((7, eqb (a .number) 0) ∷ (13, not (any (sameNumber (a .number)) (heldOn (word (a .board .now) 0) (a .board .now)))) ∷ []) refl (g .0 .0) (sym (ap gateCode (g .1)) ∙ c .before .before .before .gate-board .ensures)
+
+enum-told : tie.Need-enum-told
+enum-told c = search needs
+
+withdraw-open-requires : tie.Need-withdraw-open-requires
+withdraw-open-requires c κs = sym (c .before .before .before .before .gate-board .ensures) ∙ ap gateCode (c .before .before .enum-told .given .1)
+
+same-length-3 : tie.Need-same-length-3
+same-length-3 c = c .before .before .before .before .withdraw-open .kept .0
+
+same-length-4 : tie.Need-same-length-4
+same-length-4 c = c .before .before .before .before .withdraw-open .kept .1 .0
+
+returns-2 : tie.Need-returns-2
+returns-2 c = c .before .before .before .before .withdraw-open .ensures
+
+pub withdraw-spec : {M : Type 1} → statement M
+withdraw-spec =
+    tie.close
+    (tie.spec
+    gate-board-requires
+    enum-known-g
+    same-length
+    same-length-2
+    returns
+    enum-told
+    withdraw-open-requires
+    same-length-3
+    same-length-4
+    returns-2)

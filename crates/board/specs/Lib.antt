@@ -1,0 +1,4 @@
+pub mod Said
+pub mod Carry
+pub mod Gates
+pub mod Queue

@@ -1,0 +1,310 @@
+// The four calls on a lent board, and the blocked slots after a 12.
+ghost use mathlib.Core.Path.{_≡_};
+ghost use mathlib.Core.List.{[]};
+ghost use Prim.Native.Nat.{_≤_};
+ghost use lib.Dec.{T};
+ghost use lib.ListN.{length, take};
+ghost use Rattle.matching.specs.Lists.{slots};
+ghost use Rattle.rules.specs.Calls.{
+  boardChecks,
+  first,
+  shortFor,
+  finished,
+  step,
+  released,
+  releasedAll,
+  accept as acceptCall,
+  withdraw as withdrawCall,
+  print as printCall,
+};
+ghost use Rattle.rules.specs.Check.{passes};
+ghost use Rattle.rules.specs.Layout.{boardWords, mostChoices, row8};
+ghost use Rattle.board.specs.Carry.{InSlot, carried, Bringing, placed};
+ghost use Rattle.board.specs.Gates.{gateCode, laterChecks};
+ghost use Rattle.board.specs.Said.{said, Opens};
+use crate::checking::check;
+use crate::checking::is_held;
+use crate::checking::row_rises;
+use crate::checking::row_within;
+use crate::place::place;
+use crate::reach::forget;
+use crate::reach::reach;
+use crate::reach::show;
+use crate::words::HEAD_WORDS;
+use crate::words::HELD;
+use crate::words::Loose;
+use crate::words::MOST_CHOICES;
+use crate::words::MOST_SLOTS;
+use crate::words::SIZE;
+use crate::words::board_words;
+use crate::words::clear;
+use crate::words::number_at;
+use crate::words::put_free;
+use crate::words::put_label;
+use crate::words::put_opened;
+use crate::words::work_words;
+
+// Each has its number in the paper's table by `code`; 12 is `Answer::Blocked`.
+pub enum Refusal {
+    BadSize,
+    Short,
+    Unsound,
+    LittleWork,
+    NumberZero,
+    BadCount,
+    OffBoard,
+    NotRising,
+    HeldAlready,
+    NotHeld,
+}
+
+// Accepted with a count; turned down; or no slot, with the count of blocked slots, which the work words begin with.
+pub enum Answer {
+    Accepted(u64),
+    Refused(Refusal),
+    Blocked(u16),
+}
+
+// Whether the checks let a call pass.
+pub(crate) enum Gate {
+    Pass,
+    Stop(Refusal),
+}
+
+// Check 4.
+fn short_for(n: u16, board: &[u16]) -> bool
+    ensures { λ r. ⌜ r ≡ shortFor n (now (board .entry)) ⌝ }
+{
+    if board.len() < HEAD_WORDS {
+        return true;
+    }
+    if n == 0 {
+        return false;
+    }
+    if MOST_SLOTS < n {
+        return false;
+    }
+    board.len() < board_words(n)
+}
+
+// The checks 4 to 6.
+fn gate_board(board: &[u16], work: &[u16]) -> Gate
+    ensures { λ r. ⌜ gateCode r ≡ first (boardChecks (now (board .entry)) (now (work .entry)) []) ⌝ }
+{
+    if board.len() < HEAD_WORDS {
+        return Gate::Stop(Refusal::Short);
+    }
+    let n = board[SIZE];
+    if short_for(n, board) {
+        return Gate::Stop(Refusal::Short);
+    }
+    if !check(board) {
+        return Gate::Stop(Refusal::Unsound);
+    }
+    if work.len() < work_words(n) {
+        return Gate::Stop(Refusal::LittleWork);
+    }
+    Gate::Pass
+}
+
+pub fn open_board(board: &mut [u16], n: u16) -> Answer
+    ensures { λ r. ⌜ Opens n (now (board .entry)) (now (board .exit)) r ⌝ }
+{
+    if n == 0 {
+        return Answer::Refused(Refusal::BadSize);
+    }
+    if MOST_SLOTS < n {
+        return Answer::Refused(Refusal::BadSize);
+    }
+    if short_for(n, board) {
+        return Answer::Refused(Refusal::Short);
+    }
+    put_opened(board, n);
+    Answer::Accepted(0)
+}
+
+// The checks 7 to 11, of the order itself.
+pub(crate) fn gate_order(board: &[u16], number: u16, count: u16, row: [u16; 8]) -> Gate
+    requires { ⌜ T (passes (now board)) ⌝ }
+    ensures { λ r. ⌜ gateCode r ≡ first (laterChecks number count row (now (board .entry))) ⌝ }
+{
+    if number == 0 {
+        return Gate::Stop(Refusal::NumberZero);
+    }
+    if count == 0 {
+        return Gate::Stop(Refusal::BadCount);
+    }
+    if MOST_CHOICES < count {
+        return Gate::Stop(Refusal::BadCount);
+    }
+    let n = board[SIZE];
+    let c = count as usize;
+    if !row_within(n, c, row) {
+        return Gate::Stop(Refusal::OffBoard);
+    }
+    if !row_rises(n, c, row) {
+        return Gate::Stop(Refusal::NotRising);
+    }
+    if is_held(board, n, number) {
+        return Gate::Stop(Refusal::HeldAlready);
+    }
+    Gate::Pass
+}
+
+// The row with 0 beyond its count.
+fn padded(count: usize, row: [u16; 8]) -> [u16; 8]
+    requires { ⌜ count ≤ mostChoices ⌝ }
+    ensures { λ r. ⌜ r ≡ row8 (take count row) ⌝ }
+{
+    let mut out = row;
+    let mut i = count;
+    while i < 8 {
+        out[i] = 0;
+        i += 1;
+    }
+    out
+}
+
+// The order goes onto a checked board, or its reach is shown.
+pub(crate) fn bring_in(board: &mut [u16], work: &mut [u16], x: Loose) -> Answer
+    requires { ⌜ Bringing (now board) (now work) x ⌝ }
+    ensures { λ r. ⌜ said r (now (board .exit)) (now (work .exit))
+        ≡ finished (now (board .entry)) (now (work .entry)) (carried x) (placed (now (board .entry)) (carried x)) ⌝ }
+{
+    let n = board[SIZE];
+    if reach(board, work, n, x) {
+        forget(work, n);
+        let held = board[HELD];
+        let moves = place(board, n, x);
+        board[HELD] = held + 1;
+        return Answer::Accepted(moves);
+    }
+    let s = show(work, n);
+    Answer::Blocked(s)
+}
+
+// What comes after the checks 4 to 6: 7 to 11, then the order itself.
+pub(crate) fn accept_open(
+    board: &mut [u16],
+    work: &mut [u16],
+    number: u16,
+    count: u16,
+    row: [u16; 8],
+) -> Answer
+    requires { ⌜ first (boardChecks (now board) (now work) []) ≡ 0 ⌝ }
+    ensures { λ r. ⌜ said r (now (board .exit)) (now (work .exit)) ≡ step (acceptCall number count row) (now (board .entry)) (now (work .entry)) ⌝ }
+{
+    let n = board[SIZE];
+    clear(work, n);
+    let g = gate_order(board, number, count, row);
+    match g {
+        Gate::Stop(r) => {
+            return Answer::Refused(r);
+        }
+        Gate::Pass => {
+            let x = Loose {
+                number,
+                count,
+                row: padded(count as usize, row),
+            };
+            return bring_in(board, work, x);
+        }
+    }
+}
+
+pub fn accept(board: &mut [u16], work: &mut [u16], number: u16, count: u16, row: [u16; 8]) -> Answer
+    ensures { λ r. ⌜ said r (now (board .exit)) (now (work .exit)) ≡ step (acceptCall number count row) (now (board .entry)) (now (work .entry)) ⌝ }
+{
+    let g = gate_board(board, work);
+    match g {
+        Gate::Stop(r) => {
+            return Answer::Refused(r);
+        }
+        Gate::Pass => {
+            return accept_open(board, work, number, count, row);
+        }
+    }
+}
+
+// Slot s after order k's withdrawal: free if it held k; else its label is 1 if it holds an order.
+fn release(board: &mut [u16], s: u16, k: u16)
+    requires { ⌜ InSlot (now board) s ⌝ }
+    ensures { λ _. ⌜ now (board .exit) ≡ released k (now (board .entry)) s ⌝ }
+{
+    let number = number_at(board, s);
+    if number == k {
+        put_free(board, s);
+        return;
+    }
+    if number != 0 {
+        put_label(board, s, 1);
+    }
+}
+
+// "moves nobody": each slot by itself.
+fn release_all(board: &mut [u16], n: u16, k: u16)
+    requires { ⌜ boardWords n ≤ length (now board) ⌝ }
+    ensures { λ _. ⌜ now (board .exit) ≡ releasedAll k (now (board .entry)) (slots n) ⌝ }
+{
+    let mut s = n;
+    while 0 < s {
+        release(board, s, k);
+        s -= 1;
+    }
+}
+
+// What comes after the checks 4 to 6.
+pub(crate) fn withdraw_open(board: &mut [u16], work: &mut [u16], number: u16) -> Answer
+    requires { ⌜ first (boardChecks (now board) (now work) []) ≡ 0 ⌝ }
+    ensures { λ r. ⌜ said r (now (board .exit)) (now (work .exit)) ≡ step (withdrawCall number) (now (board .entry)) (now (work .entry)) ⌝ }
+{
+    let n = board[SIZE];
+    clear(work, n);
+    if number == 0 {
+        return Answer::Refused(Refusal::NumberZero);
+    }
+    if !is_held(board, n, number) {
+        return Answer::Refused(Refusal::NotHeld);
+    }
+    let held = board[HELD];
+    release_all(board, n, number);
+    board[HELD] = held - 1;
+    Answer::Accepted(0)
+}
+
+pub fn withdraw(board: &mut [u16], work: &mut [u16], number: u16) -> Answer
+    ensures { λ r. ⌜ said r (now (board .exit)) (now (work .exit)) ≡ step (withdrawCall number) (now (board .entry)) (now (work .entry)) ⌝ }
+{
+    let g = gate_board(board, work);
+    match g {
+        Gate::Stop(r) => {
+            return Answer::Refused(r);
+        }
+        Gate::Pass => {
+            return withdraw_open(board, work, number);
+        }
+    }
+}
+
+pub fn print(board: &[u16], work: &mut [u16]) -> Answer
+    ensures { λ r. ⌜ said r (now (board .entry)) (now (work .exit)) ≡ step printCall (now (board .entry)) (now (work .entry)) ⌝ }
+{
+    let g = gate_board(board, work);
+    match g {
+        Gate::Stop(r) => {
+            return Answer::Refused(r);
+        }
+        Gate::Pass => {
+            let size = board[SIZE];
+            clear(work, size);
+            return Answer::Accepted(size as u64);
+        }
+    }
+}
+
+// The first s of the work words: after a 12 that counts s, the blocked slots.
+pub fn blocked(work: &[u16], s: usize) -> &[u16]
+    ensures { λ r. ⌜ now r ≡ take s (now (work .entry)) ⌝ }
+{
+    if s < work.len() { &work[..s] } else { work }
+}
