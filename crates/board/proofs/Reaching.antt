@@ -1,7 +1,7 @@
 -- The reach's loop: what is marked is reached, and when the queue is dealt with, all that is reached is marked.
 use mathlib.Core.Bool.{true, false}
 use mathlib.Core.List.{List, List·Memᴰ as Mem, List·Memᴰ·head as here}
-use mathlib.Core.Logic.{_⊎_, ⊎-elim}
+use mathlib.Core.Logic.{⊎-elim}
 use mathlib.Core.Path.{_≡_, refl, sym, ap, _∙_, subst}
 use Prim.Native.Nat.{ℕ, _+_, _≤_, _<_}
 use native.Mathlib.Decide.{ℕ-discrete}

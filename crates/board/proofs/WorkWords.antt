@@ -21,12 +21,9 @@ use Rattle.rules.proofs.WordLaws.{sets-in, sets-after}
 use Rattle.board.specs.Queue.{seen}
 
 -- zeros at the front of the words
-front : (m : ℕ) (w : List ℕ) (i : ℕ) → m ≤ length w → i < m → word (sets w 0 (replicate m 0)) i ≡ 0
-front m w i fits h =
-    ap (word (sets w 0 (replicate m 0))) (sym (zero-add i)) ∙ sets-in (replicate m 0) w 0 i (omega (arith, length-replicate {A = ℕ} m 0)) (omega (arith, length-replicate {A = ℕ} m 0)) ∙ getD-replicate m i 0 0 h
-
 pub clean-front : (m : ℕ) (w : List ℕ) → m ≤ length w → (i : ℕ) → i < m → word (sets w 0 (replicate m 0)) i ≡ 0
-clean-front m w fits i h = front m w i fits h
+clean-front m w fits i h =
+    ap (word (sets w 0 (replicate m 0))) (sym (zero-add i)) ∙ sets-in (replicate m 0) w 0 i (omega (arith, length-replicate {A = ℕ} m 0)) (omega (arith, length-replicate {A = ℕ} m 0)) ∙ getD-replicate m i 0 0 h
 
 pub cleared-is : (n : ℕ) (w : List ℕ) → workWords n ≤ length w → sets w 0 (replicate (workWords n) 0) ≡ cleared n w
 cleared-is n w h =
@@ -44,7 +41,7 @@ cleared-twice n w h z =
     m = workWords n
 
     go : (i : ℕ) → Dec (i < m) → word (sets w 0 (replicate m 0)) i ≡ word w i
-    go i (yes lt) = front m w i h lt ∙ sym (z i lt)
+    go i (yes lt) = clean-front m w h i lt ∙ sym (z i lt)
     go i (no ge) = sets-after (replicate m 0) w 0 i (omega (arith, length-replicate {A = ℕ} m 0))
 
 -- the used words are cleared again
@@ -53,7 +50,7 @@ pub restored : (k : ℕ) (w w′ : List ℕ) → k ≤ length w → length w′ 
 restored k w w′ h e z f = ext-getD 0 (sets w′ 0 (replicate k 0)) w (length-sets w′ 0 (replicate k 0) ∙ e) (λ i lt. go i (decLt i k))
   where
     go : (i : ℕ) → Dec (i < k) → word (sets w′ 0 (replicate k 0)) i ≡ word w i
-    go i (yes lt) = front k w′ i (omega arith) lt ∙ sym (z i lt)
+    go i (yes lt) = clean-front k w′ (omega arith) i lt ∙ sym (z i lt)
     go i (no ge) = sets-after (replicate k 0) w′ 0 i (omega (arith, length-replicate {A = ℕ} k 0)) ∙ f i (omega arith)
 
 -- the used words show the list R, and are cleared after it

@@ -1,5 +1,4 @@
 use mathlib.Core.Path.{refl, sym, ap, _∙_}
-use Prim.Native.Nat.{_-_}
 use borrow.Author.Needs.{needs}
 use Rattle.rules.specs.Calls as Calls
 use Rattle.board.specs.Gates.{gateCode, laterChecks}

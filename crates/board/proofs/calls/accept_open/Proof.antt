@@ -1,6 +1,6 @@
 use mathlib.Core.List.{List}
 use mathlib.Core.Path.{_≡_, refl, sym, ap, _∙_, subst}
-use Prim.Native.Nat.{ℕ, _-_, _≤_}
+use Prim.Native.Nat.{ℕ, _≤_}
 use native.Mathlib.Omega.{arith}
 use lib.ListN.{length}
 use borrow.Author.Needs.{needs}
@@ -64,7 +64,7 @@ padded-requires c κs =
 
 bring-in-requires : tie.Need-bring-in-requires
 bring-in-requires c κs =
-    let s = (c .before .before .before .before .before .before .before .before .before .before .before .before .before .before) in
+    let s = c .before .before .before .before .before .before .before .before .before .before .before .before .before .before in
     let a = s .args in
     let long : length (a .row) ≡ 8 = omega arith in
     subst (λ (l : List ℕ). Bringing (a .board .now) (c .before .before .before .before .before .before .before .before .before .clear .last .0) (record { number = a .number; count = a .count; row = l })) (sym (c .before .before .padded .ensures))
@@ -78,7 +78,7 @@ same-length-4 c = c .before .before .before .before .bring-in .kept .1 .0 ∙ c 
 
 returns-2 : tie.Need-returns-2
 returns-2 c =
-    let s = (c .before .before .before .before .before .before .before .before .before .before .before .before .before .before .before .before .before .before .before) in
+    let s = c .before .before .before .before .before .before .before .before .before .before .before .before .before .before .before .before .before .before .before in
     let a = s .args in
     let long : length (a .row) ≡ 8 = omega arith in
     let out = c .before .before .before .before .before .before .before .before .before .before .before .before .before .before .clear .last .0 in

@@ -1,15 +1,7 @@
-use mathlib.Core.Bool.{not}
-use mathlib.Core.List.{[], _∷_}
 use mathlib.Core.Path.{refl, sym, ap, _∙_}
-use Prim.Native.Nat.{_-_}
-use lib.Dec.{eqb}
 use borrow.Author.Needs.{needs}
-use Rattle.matching.specs.Lists.{any}
-use Rattle.matching.specs.Orders.{sameNumber}
 use Rattle.rules.specs.Calls as Calls
-use Rattle.rules.specs.Layout.{word}
-use Rattle.board.specs.Carry.{heldOn}
-use Rattle.board.specs.Gates.{gateCode}
+use Rattle.board.specs.Gates.{gateCode, withdrawChecks}
 use Rattle.board.proofs.Answers.{stop-any}
 use Rattle.board.proofs.calls.withdraw.Statement.{statement}
 use Rattle.board.proofs.calls.withdraw.Tie as tie
@@ -30,7 +22,7 @@ returns : tie.Need-returns
 returns c =
     let a = c .before .before .before .before .before .before .before .before .args in
     let g = c .before .g .given in
-    stop-any (Calls.withdraw (a .number)) (a .board .now) (a .work .now) ((7, eqb (a .number) 0) ∷ (13, not (any (sameNumber (a .number)) (heldOn (word (a .board .now) 0) (a .board .now)))) ∷ []) refl (g .0 .0) (sym (ap gateCode (g .1)) ∙ c .before .before .before .gate-board .ensures)
+    stop-any (Calls.withdraw (a .number)) (a .board .now) (a .work .now) (withdrawChecks (a .number) (a .board .now)) refl (g .0 .0) (sym (ap gateCode (g .1)) ∙ c .before .before .before .gate-board .ensures)
 
 enum-told : tie.Need-enum-told
 enum-told c = search needs

@@ -1,19 +1,18 @@
-use mathlib.Core.Bool.{Bool, true, false, not}
-use mathlib.Core.List.{List, [], _∷_}
+use mathlib.Core.Bool.{Bool, true, false}
+use mathlib.Core.List.{List}
 use mathlib.Core.Path.{_≡_, refl, sym, _∙_}
-use Prim.Native.Nat.{ℕ, _-_}
+use Prim.Native.Nat.{ℕ}
 use native.Mathlib.Omega.{arith}
-use lib.Dec.{eqb}
 use lib.ListN.{length-set}
 use borrow.Author.Needs.{needs}
 use borrow.Author.Tests.{eq-eqb, ne-eqb, not-true, not-false}
-use Rattle.matching.specs.Lists.{any}
 use Rattle.matching.specs.Orders.{sameNumber}
 use Rattle.rules.specs.Calls as Calls
-use Rattle.rules.specs.Calls.{first}
+use Rattle.rules.specs.Calls.{first, isHeld}
 use Rattle.rules.specs.Layout.{word}
 use Rattle.rules.proofs.CheckLaws.{Passed, passed-of}
 use Rattle.board.specs.Carry.{heldOn}
+use Rattle.board.specs.Gates.{withdrawChecks}
 use Rattle.board.specs.declared.calls.Refusal.the-variants.{NumberZero, NotHeld}
 use Rattle.board.proofs.Answers.{stop-late, to-more, gate-facts, withdraw-is}
 use Rattle.board.proofs.HeldOrders.{any-some}
@@ -23,14 +22,10 @@ use Rattle.board.proofs.calls.withdraw_open.Tie as tie
 good : (s : tie.Start) → Passed (s .args .board .now)
 good s = passed-of (s .args .board .now) ((gate-facts (s .args .board .now) (s .args .work .now) (s .pre)) .0)
 
-holds : (s : tie.Start) → Bool
-holds s = any (sameNumber (s .args .number)) (heldOn (word (s .args .board .now) 0) (s .args .board .now))
+abbrev more : (s : tie.Start) → List (ℕ × Bool)
+more s = withdrawChecks (s .args .number) (s .args .board .now)
 
-more : (s : tie.Start) → List (ℕ × Bool)
-more s = (7, eqb (s .args .number) 0) ∷ (13, not (holds s)) ∷ []
-
-there : (c : tie.Else2) → holds (c .before .before .before .before .before .before .before .before .before .before .before) ≡ true
-unfolding holds
+there : (c : tie.Else2) → let a = c .before .before .before .before .before .before .before .before .before .before .before .args in isHeld (a .number) (a .board .now) ≡ true
 there c = sym (c .before .is-held .ensures) ∙ not-false _ (c .if2 .left)
 
 slice-read-n : tie.Need-slice-read-n
@@ -45,9 +40,8 @@ same-length : tie.Need-same-length
 same-length c = search needs
 
 returns : tie.Need-returns
-unfolding more holds
 returns c =
-    let s = (c .before .before .before .before .before .before .before .before) in
+    let s = c .before .before .before .before .before .before .before .before in
     let a = s .args in
     let z : 7 ≡ first (more s) = rw (eq-eqb (a .number) 0 (c .if1 .taken)) in
     stop-late (Calls.withdraw (a .number)) (a .board .now) (a .work .now) (more s) refl (s .pre) NumberZero z (omega arith) (c .before .before .before .clear .last .0) (c .before .before .before .clear .ensures)
@@ -62,11 +56,10 @@ same-length-3 : tie.Need-same-length-3
 same-length-3 c = c .before .before .before .before .before .before .clear .kept .0
 
 returns-2 : tie.Need-returns-2
-unfolding more holds
 returns-2 c =
-    let s = (c .before .before .before .before .before .before .before .before .before .before .before) in
+    let s = c .before .before .before .before .before .before .before .before .before .before .before in
     let a = s .args in
-    let q : holds s ≡ false = sym (c .before .is-held .ensures) ∙ not-true _ (c .if2 .taken) in
+    let q : isHeld (a .number) (a .board .now) ≡ false = sym (c .before .is-held .ensures) ∙ not-true _ (c .if2 .taken) in
     let z : 13 ≡ first (more s) = rw (ne-eqb (a .number) 0 (c .before .before .before .if1 .left), q) in
     stop-late (Calls.withdraw (a .number)) (a .board .now) (a .work .now) (more s) refl (s .pre) NotHeld z (omega arith) (c .before .before .before .before .before .before .clear .last .0) (c .before .before .before .before .before .before .clear .ensures)
 
@@ -77,9 +70,8 @@ release-all-requires : tie.Need-release-all-requires
 release-all-requires c κs = (good (c .before .before .before .before .before .before .before .before .before .before .before .before .before)) .sound .fits
 
 sub-board : tie.Need-sub-board
-unfolding holds
 sub-board c =
-    let s = (c .before .before .before .before .before .before .before .before .before .before .before .before .before .before .before .before) in
+    let s = c .before .before .before .before .before .before .before .before .before .before .before .before .before .before .before .before in
     let w = s .args .board .now in
     omega (arith, (good s) .tally, any-some (sameNumber (s .args .number)) (heldOn (word w 0) w) (there (c .before .before .before .before .before)))
 
@@ -93,9 +85,8 @@ same-length-5 : tie.Need-same-length-5
 same-length-5 c = c .before .before .before .before .before .before .before .before .before .before .before .clear .kept .0
 
 returns-3 : tie.Need-returns-3
-unfolding more holds
 returns-3 c =
-    let s = (c .before .before .before .before .before .before .before .before .before .before .before .before .before .before .before .before) in
+    let s = c .before .before .before .before .before .before .before .before .before .before .before .before .before .before .before .before in
     let a = s .args in
     let z : first (more s) ≡ 0 = rw (ne-eqb (a .number) 0 (c .before .before .before .before .before .before .before .before .if1 .left), there (c .before .before .before .before .before)) in
     withdraw-is (a .board .now) (a .work .now) (c .before .before .before .before .before .before .before .before .before .before .before .clear .last .0) (c .before .before .release-all .last .0) (a .number)

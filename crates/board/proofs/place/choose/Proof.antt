@@ -1,6 +1,5 @@
 use mathlib.Core.Logic.{inl, inr}
 use mathlib.Core.Path.{refl}
-use Prim.Native.Nat.{_-_}
 use lib.ListN.{take}
 use borrow.Author.Needs.{needs}
 use Rattle.matching.specs.Placing.{pick}

@@ -1,5 +1,5 @@
 use mathlib.Core.Path.{_≡_, sym, ap, _∙_}
-use Prim.Native.Nat.{ℕ, _-_}
+use Prim.Native.Nat.{ℕ}
 use lib.ListN.{take}
 use borrow.Author.Needs.{needs}
 use Rattle.matching.specs.Orders.{openSlots}

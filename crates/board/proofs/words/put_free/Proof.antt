@@ -1,5 +1,4 @@
 use mathlib.Core.Path.{_∙_}
-use Prim.Native.Nat.{_-_}
 use borrow.Author.Needs.{needs}
 use Rattle.board.proofs.words.put_free.Statement.{statement}
 use Rattle.board.proofs.words.put_free.Tie as tie
