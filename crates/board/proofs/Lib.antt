@@ -11,3 +11,8 @@ pub mod HeldOrders
 pub mod BringingIn
 pub mod Answers
 pub mod Releasing
+pub mod LineKinds
+pub mod ReplyTexts
+pub mod LineEnds
+pub mod BlockTurns
+pub mod Closing

@@ -2,3 +2,8 @@ pub mod Said
 pub mod Carry
 pub mod Gates
 pub mod Queue
+pub mod Handling
+pub mod Replying
+pub mod Answering
+pub mod Running
+pub mod LineEnds

@@ -1,8 +1,11 @@
-// The board: its check and the calls of document 01, on words that the caller lends.
+// The board: its check, the calls of document 01, and the handling of a line, on words that the caller lends.
 mod calls;
 mod checking;
+mod handling;
 mod place;
 mod reach;
+mod replies;
+mod running;
 mod words;
 
 pub use calls::Answer;
@@ -13,3 +16,12 @@ pub use calls::open_board;
 pub use calls::print;
 pub use calls::withdraw;
 pub use checking::check;
+pub use handling::Handled;
+pub use handling::Reply;
+pub use handling::Tally;
+pub use handling::handle;
+pub use handling::handle_line;
+pub use handling::tallied;
+pub use running::Block;
+pub use running::close;
+pub use running::run_block;

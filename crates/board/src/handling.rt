@@ -1,0 +1,260 @@
+// One line's handling: the call that it asks for, the reply, and the day's tally.
+ghost use mathlib.Core.Path.{_≡_};
+ghost use mathlib.Core.List.{[], _∷_};
+ghost use mathlib.Core.Bool.{cond};
+ghost use Prim.Native.Nat.{_-_, _≤_};
+ghost use lib.Dec.{eqb};
+ghost use lib.ListN.{getD, take, drop};
+ghost use Rattle.rules.specs.Calls.{step, accept as acceptCall, withdraw as withdrawCall, print as printCall};
+ghost use Rattle.rules.specs.Layout.{heldCount};
+ghost use Rattle.rules.specs.Lines.{letterA, letterW, letterP};
+ghost use Rattle.rules.specs.Runs.{up, counted as countedOf, answered, handleLine};
+ghost use Rattle.board.specs.Said.{code, refusalOf, countOf};
+ghost use Rattle.board.specs.Handling.{countsOf, stateOf, handledOf};
+ghost use Rattle.board.specs.Replying.{Replies, OpensLine, LeavesUnread};
+use crate::calls::Answer;
+use crate::calls::Refusal;
+use crate::calls::accept;
+use crate::calls::open_board;
+use crate::calls::print;
+use crate::calls::withdraw;
+use crate::words::HEAD_WORDS;
+use crate::words::HELD;
+use reading::Kind;
+use reading::read_line;
+
+// Lines, accepted ones and refused ones; each count stops at 4,294,967,295.
+pub struct Tally {
+    pub lines: u32,
+    pub accepted: u32,
+    pub refused: u32,
+}
+
+// What an answer line shows.
+pub struct Reply {
+    pub letter: u8,
+    pub number: u16,
+    pub refusal: u16,
+    pub count: u64,
+}
+
+pub struct Handled {
+    pub reply: Reply,
+    pub tally: Tally,
+}
+
+fn up_one(n: u32) -> u32
+    ensures { λ r. ⌜ r ≡ up n ⌝ }
+{
+    if n < 4294967295 { n + 1 } else { n }
+}
+
+// The tally after one more line.
+fn counted(t: Tally, ok: bool) -> Tally
+    ensures { λ r. ⌜ countsOf r ≡ countedOf ok (countsOf t) ⌝ }
+{
+    let lines = up_one(t.lines);
+    if ok {
+        return Tally {
+            lines,
+            accepted: up_one(t.accepted),
+            refused: t.refused,
+        };
+    }
+    Tally {
+        lines,
+        accepted: t.accepted,
+        refused: up_one(t.refused),
+    }
+}
+
+// The number of the table.
+fn refusal_number(r: Refusal) -> u16
+    ensures { λ n. ⌜ n ≡ code r ⌝ }
+{
+    match r {
+        Refusal::BadSize => 3,
+        Refusal::Short => 4,
+        Refusal::Unsound => 5,
+        Refusal::LittleWork => 6,
+        Refusal::NumberZero => 7,
+        Refusal::BadCount => 8,
+        Refusal::OffBoard => 9,
+        Refusal::NotRising => 10,
+        Refusal::HeldAlready => 11,
+        Refusal::NotHeld => 13,
+    }
+}
+
+fn refusal_of(a: Answer) -> u16
+    ensures { λ n. ⌜ n ≡ refusalOf a ⌝ }
+{
+    match a {
+        Answer::Accepted(k) => 0,
+        Answer::Refused(r) => refusal_number(r),
+        Answer::Blocked(s) => 12,
+    }
+}
+
+fn count_of(a: Answer) -> u64
+    ensures { λ n. ⌜ n ≡ countOf a ⌝ }
+{
+    match a {
+        Answer::Accepted(k) => k,
+        Answer::Refused(r) => 0,
+        Answer::Blocked(s) => s as u64,
+    }
+}
+
+// A call's answer as the line's reply.
+fn replied(letter: u8, number: u16, a: Answer, t: Tally) -> Handled
+    ensures { λ r. ⌜ Replies letter number (refusalOf a) (countOf a) t r ⌝ }
+{
+    let refusal = refusal_of(a);
+    let count = count_of(a);
+    let reply = Reply {
+        letter,
+        number,
+        refusal,
+        count,
+    };
+    let tally = counted(t, refusal == 0);
+    Handled { reply, tally }
+}
+
+// A line that was not read: X, and the refusal.
+pub(crate) fn unread_line(refusal: u16, t: Tally) -> Handled
+    ensures { λ r. ⌜ LeavesUnread refusal t r ⌝ }
+{
+    let reply = Reply {
+        letter: b'X',
+        number: 0,
+        refusal,
+        count: 0,
+    };
+    let tally = counted(t, false);
+    Handled { reply, tally }
+}
+
+fn open_line(n: u16, board: &mut [u16], t: Tally) -> Handled
+    ensures { λ r. ⌜ OpensLine n t (now (board .entry)) (now (board .exit)) r ⌝ }
+{
+    let a = open_board(board, n);
+    replied(b'S', n, a, t)
+}
+
+// The columns after the number, up to eight of them.
+fn row_of(columns: [u16; 10]) -> [u16; 8]
+    ensures { λ r. ⌜ r ≡ take 8 (drop 1 columns) ⌝ }
+{
+    [
+        columns[1],
+        columns[2],
+        columns[3],
+        columns[4],
+        columns[5],
+        columns[6],
+        columns[7],
+        columns[8],
+    ]
+}
+
+fn accept_line(
+    columns: [u16; 10],
+    count: usize,
+    board: &mut [u16],
+    work: &mut [u16],
+    t: Tally,
+) -> Handled
+    requires { ⌜ (1 ≤ count) × (count ≤ 10) ⌝ }
+    ensures { λ r. ⌜ handledOf r (now (board .exit)) (now (work .exit))
+        ≡ answered letterA columns (stateOf (now (board .entry)) (now (work .entry)) t)
+        (step (acceptCall (getD columns 0 0) (count - 1) (take 8 (drop 1 columns))) (now (board .entry)) (now (work .entry))) ⌝ }
+{
+    let number = columns[0];
+    let a = accept(board, work, number, (count - 1) as u16, row_of(columns));
+    replied(b'A', number, a, t)
+}
+
+fn withdraw_line(number: u16, board: &mut [u16], work: &mut [u16], t: Tally) -> Handled
+    ensures { λ r. ⌜ handledOf r (now (board .exit)) (now (work .exit))
+        ≡ answered letterW (number ∷ []) (stateOf (now (board .entry)) (now (work .entry)) t)
+        (step (withdrawCall number) (now (board .entry)) (now (work .entry))) ⌝ }
+{
+    let a = withdraw(board, work, number);
+    replied(b'W', number, a, t)
+}
+
+// The orders held, 0 if refused.
+fn held_shown(board: &[u16], a: Answer) -> u16
+    ensures { λ r. ⌜ r ≡ cond (eqb (refusalOf a) 0) (heldCount (now (board .entry))) 0 ⌝ }
+{
+    if refusal_of(a) != 0 {
+        return 0;
+    }
+    if board.len() < HEAD_WORDS {
+        return 0;
+    }
+    board[HELD]
+}
+
+fn print_line(board: &[u16], work: &mut [u16], t: Tally) -> Handled
+    ensures { λ r. ⌜ handledOf r (now (board .entry)) (now (work .exit))
+        ≡ answered letterP [] (stateOf (now (board .entry)) (now (work .entry)) t)
+        (step printCall (now (board .entry)) (now (work .entry))) ⌝ }
+{
+    let a = print(board, work);
+    let number = held_shown(board, a);
+    replied(b'P', number, a, t)
+}
+
+// A line, without its line feed.
+pub fn handle(line: &[u8], board: &mut [u16], work: &mut [u16], tally: Tally) -> Handled
+    ensures { λ r. ⌜ handledOf r (now (board .exit)) (now (work .exit))
+        ≡ handleLine (now (line .entry)) (stateOf (now (board .entry)) (now (work .entry)) tally) ⌝ }
+{
+    let l = read_line(line);
+    let kind = l.kind;
+    let count = l.count;
+    let columns = l.columns;
+    match kind {
+        Kind::Open => {
+            return open_line(columns[0], board, tally);
+        }
+        Kind::Accept => {
+            return accept_line(columns, count, board, work, tally);
+        }
+        Kind::Withdraw => {
+            return withdraw_line(columns[0], board, work, tally);
+        }
+        Kind::Print => {
+            return print_line(board, work, tally);
+        }
+        Kind::Malformed => {
+            return unread_line(1, tally);
+        }
+        Kind::TooLarge => {
+            return unread_line(2, tally);
+        }
+    }
+}
+
+// The same with the day's tally lent: it is brought up to date.
+pub fn handle_line(line: &[u8], board: &mut [u16], work: &mut [u16], tally: &mut Tally) -> Reply
+    ensures { λ r. ⌜ handledOf (record { reply = r; tally = now (tally .exit) }) (now (board .exit)) (now (work .exit))
+        ≡ handleLine (now (line .entry)) (stateOf (now (board .entry)) (now (work .entry)) (now (tally .entry))) ⌝ }
+{
+    let h = handle(line, board, work, *tally);
+    *tally = h.tally;
+    h.reply
+}
+
+// The same for a caller that has the tally by value: its copy is lent and handed back.
+pub fn tallied(line: &[u8], board: &mut [u16], work: &mut [u16], tally: Tally) -> Handled
+    ensures { λ r. ⌜ handledOf r (now (board .exit)) (now (work .exit))
+        ≡ handleLine (now (line .entry)) (stateOf (now (board .entry)) (now (work .entry)) tally) ⌝ }
+{
+    let mut day = tally;
+    let reply = handle_line(line, board, work, &mut day);
+    Handled { reply, tally: day }
+}

@@ -1,0 +1,103 @@
+// A block of input lines, handled as far as the room for their answers surely reaches, and the N line at the end.
+ghost use mathlib.Core.Path.{_≡_};
+ghost use Prim.Native.Nat.{_≤_};
+ghost use lib.ListN.{length};
+ghost use Rattle.board.specs.Handling.{stateOf};
+ghost use Rattle.board.specs.LineEnds.{LineEnd};
+ghost use Rattle.board.specs.Running.{Leaves, Closes};
+use crate::handling::Tally;
+use crate::replies::answer_line;
+use crate::replies::answer_spoilt;
+use writing::put_answer;
+
+// No answer with the lines that follow it is longer.
+const REPLY_ROOM: usize = 32800;
+
+// So many bytes of an unended line show that it is too long.
+const WAITING: usize = 62;
+
+// What a block did: bytes of the input used up, bytes of the output written, and the tally after it.
+pub struct Block {
+    pub consumed: usize,
+    pub written: usize,
+    pub tally: Tally,
+}
+
+fn done(consumed: usize, written: usize, tally: Tally) -> Block
+    ensures { λ r. ⌜ r ≡ record { consumed = consumed; written = written; tally = tally } ⌝ }
+{
+    Block {
+        consumed,
+        written,
+        tally,
+    }
+}
+
+// The index of the first line feed at or after `from`, or the length where there is none.
+fn line_end(s: &[u8], from: usize) -> usize
+    requires { ⌜ from ≤ length (now s) ⌝ }
+    ensures { λ r. ⌜ LineEnd (now (s .entry)) from r ⌝ }
+{
+    let mut i = from;
+    while i < s.len() {
+        if s[i] == b'\n' {
+            return i;
+        }
+        i += 1;
+    }
+    i
+}
+
+// Whole lines in turn. Before the input's end an unended rest waits, but of one that is too long only its last bytes do; at the end it is refused.
+pub fn run_block(
+    input: &[u8],
+    ended: bool,
+    board: &mut [u16],
+    work: &mut [u16],
+    tally: Tally,
+    out: &mut [u8],
+) -> Block
+    ensures { λ r. ⌜ Leaves (now (input .entry)) ended (stateOf (now (board .entry)) (now (work .entry)) tally) (now (out .entry)) r (now (board .exit)) (now (work .exit)) (now (out .exit)) ⌝ }
+{
+    let mut at: usize = 0;
+    let mut written: usize = 0;
+    let mut t = tally;
+    let mut e = line_end(input, 0);
+    while e < input.len() {
+        if out.len() - written < REPLY_ROOM {
+            return done(at, written, t);
+        }
+        let p = answer_line(&input[at..e], board, work, t, out, written);
+        let u = p.tally;
+        written = p.end;
+        t = u;
+        at = e + 1;
+        e = line_end(input, at);
+    }
+    let left = e - at;
+    if ended {
+        if left == 0 {
+            return done(at, written, t);
+        }
+        if out.len() - written < REPLY_ROOM {
+            return done(at, written, t);
+        }
+        let p = answer_spoilt(t, out, written);
+        let u = p.tally;
+        return done(e, p.end, u);
+    }
+    if WAITING < left {
+        return done(e - WAITING, written, t);
+    }
+    done(at, written, t)
+}
+
+// The N line.
+pub fn close(t: Tally, out: &mut [u8]) -> usize
+    ensures { λ r. ⌜ Closes t (now (out .entry)) r (now (out .exit)) ⌝ }
+{
+    let lines = t.lines as u64;
+    let accepted = t.accepted as u64;
+    let refused = t.refused as u64;
+    put_answer(out, 0, b'N', [lines, accepted, refused, 0, 0, 0, 0, 0], 3)
+}
