@@ -7,7 +7,7 @@ use native.Mathlib.Decide.{decLe}
 use native.Mathlib.Omega.{arith}
 use lib.Dec.{T, eqb, leb, ltb, leb→le}
 use lib.ListN.{length, replicate, take, drop, set}
-use lib.Seq.{sets, length-take-le, take-all, take-append-le, length-sets}
+use lib.Seq.{sets, length-take-le, length-sets}
 use borrow.Author.Tests.{le-leb, lt-leb, ne-eqb, lt-ltb, le-ltb}
 use Rattle.matching.specs.Blocking.{blocked}
 use Rattle.matching.specs.Lists.{slots, rising}
@@ -21,7 +21,7 @@ use Rattle.rules.specs.Check.{passes}
 use Rattle.rules.specs.Layout.{mostSlots, mostChoices, boardWords, word, row8, view, workWords}
 use Rattle.rules.proofs.CheckLaws.{passed-of}
 use Rattle.rules.proofs.Checks as Checks
-use Rattle.rules.proofs.WordLaws.{take-row8}
+use Rattle.rules.proofs.WordLaws.{take-row8, row8-same}
 use Rattle.board.specs.Carry.{carried, Bringing, placed}
 use Rattle.board.specs.Gates.{laterChecks}
 use Rattle.board.specs.Said.{code, said}
@@ -148,9 +148,6 @@ gate-clear w work t h =
     )
 
 -- ---- the order as it is carried
-
-pub row8-same : (row : List ℕ) → length row ≡ 8 → row8 row ≡ row
-row8-same row h = take-append-le 8 row (replicate 8 0) (omega arith) ∙ take-all 8 row (omega arith)
 
 list-same : (c : ℕ) (row : List ℕ) → c ≤ 8 → length row ≡ 8 → take c (row8 (take c row)) ≡ take c (row8 row)
 list-same c row h e =

@@ -8,15 +8,14 @@ use native.Mathlib.Omega.{arith}
 use lib.Dec.{T, eqb, eqb-refl, ltb, lt→ltb, not-T, ltb→lt}
 use lib.ListN.{length, getD, take, drop, drop-of-length-le}
 use lib.Seq.{drop-cons, length-take-le, getD-take}
-use borrow.Author.Tests.{lt-ltb, le-ltb, le-leb, lt-leb, eq-eqb, ne-eqb}
-use Rattle.matching.specs.Lists.{member, slots, rising, all}
+use borrow.Author.Tests.{le-leb, lt-leb, eq-eqb, ne-eqb}
+use Rattle.matching.specs.Lists.{member, slots, all}
 use Rattle.matching.specs.Placing.{leastOther, pickFrom, pick}
 use Rattle.matching.proofs.Counting.{and-i, cond-yes, cond-no}
 use Rattle.matching.proofs.Sets.{all-at}
-use Rattle.rules.specs.Calls.{onBoard}
 use Rattle.rules.specs.Check.{lowLabel, zeros}
 use Rattle.rules.specs.Layout.{word, reads, labelAt}
-use Rattle.board.proofs.Lists.{rest-more, rest-done}
+use Rattle.orders.proofs.Rows.{rest-more, rest-done}
 
 pub least-more : (lab : ℕ → ℕ) (v m : ℕ) (row : List ℕ) (c i : ℕ) → i < c → c ≤ length row
     → leastOther lab v (cond (eqb (getD row i 0) v) m (min m (lab (getD row i 0)))) (drop (i + 1) (take c row)) ≡ leastOther lab v m (drop i (take c row))
@@ -46,24 +45,6 @@ module _ (row : List ℕ) (c i : ℕ) (k : c ≤ length row) where
     pub member-more : (s : ℕ) → (s ≡ t → ⊥) → member s next′ ≡ member s here′
     member-more s e = rw (rest-more row c i h k, ne-eqb s t e)
 
-    pub on-low : (n : ℕ) → t ≡ 0 → onBoard n here′ ≡ false
-    on-low n e = rw (rest-more row c i h k, lt-leb 1 t (omega arith))
-
-    pub on-high : (n : ℕ) → (t ≡ 0 → ⊥) → n < t → onBoard n here′ ≡ false
-    on-high n e g = rw (rest-more row c i h k, le-leb 1 t (omega arith), lt-leb t n g)
-
-    pub on-more : (n : ℕ) → (t ≡ 0 → ⊥) → t ≤ n → onBoard n next′ ≡ onBoard n here′
-    on-more n e g = rw (rest-more row c i h k, le-leb 1 t (omega arith), le-leb t n g)
-
-    pub rising-low : (n p : ℕ) → t ≤ p → rising n p here′ ≡ false
-    rising-low n p e = rw (rest-more row c i h k, le-ltb p t e)
-
-    pub rising-high : (n p : ℕ) → p < t → n < t → rising n p here′ ≡ false
-    rising-high n p e g = rw (rest-more row c i h k, lt-ltb p t e, lt-leb t n g)
-
-    pub rising-more : (n p : ℕ) → p < t → t ≤ n → rising n t next′ ≡ rising n p here′
-    rising-more n p e g = rw (rest-more row c i h k, lt-ltb p t e, le-leb t n g)
-
     pub low-stop : (w : List ℕ) (s : ℕ) → (t ≡ s → ⊥) → labelAt w t + 1 < labelAt w s → lowLabel w s here′ ≡ false
     low-stop w s e g = rw (rest-more row c i h k, ne-eqb t s e, lt-leb (labelAt w s) (suc (labelAt w t)) (omega arith))
 
@@ -76,12 +57,6 @@ module _ (row : List ℕ) (c i : ℕ) (k : c ≤ length row) where
   module _ (h : c ≤ i) where
     pub member-done : (s : ℕ) → member s here′ ≡ false
     member-done s = rw (rest-done row c i h k)
-
-    pub on-done : (n : ℕ) → onBoard n here′ ≡ true
-    on-done n = rw (rest-done row c i h k)
-
-    pub rising-done : (n p : ℕ) → rising n p here′ ≡ true
-    rising-done n p = rw (rest-done row c i h k)
 
     pub low-done : (w : List ℕ) (s : ℕ) → lowLabel w s here′ ≡ true
     low-done w s = rw (rest-done row c i h k)

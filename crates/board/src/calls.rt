@@ -21,11 +21,10 @@ ghost use Rattle.rules.specs.Check.{passes};
 ghost use Rattle.rules.specs.Layout.{boardWords, mostChoices, row8};
 ghost use Rattle.board.specs.Carry.{InSlot, carried, Bringing, placed};
 ghost use Rattle.board.specs.Gates.{gateCode, laterChecks};
-ghost use Rattle.board.specs.Said.{said, Opens};
+ghost use Rattle.board.specs.Said.{code, said, Opens};
+ghost use Rattle.orders.specs.Verdict.{faultNumber};
 use crate::checking::check;
 use crate::checking::is_held;
-use crate::checking::row_rises;
-use crate::checking::row_within;
 use crate::place::place;
 use crate::reach::forget;
 use crate::reach::reach;
@@ -33,7 +32,6 @@ use crate::reach::show;
 use crate::words::HEAD_WORDS;
 use crate::words::HELD;
 use crate::words::Loose;
-use crate::words::MOST_CHOICES;
 use crate::words::MOST_SLOTS;
 use crate::words::SIZE;
 use crate::words::board_words;
@@ -43,6 +41,9 @@ use crate::words::put_free;
 use crate::words::put_label;
 use crate::words::put_opened;
 use crate::words::work_words;
+use orders::Fault;
+use orders::Verdict;
+use orders::judge;
 
 // Each has its number in the paper's table by `code`; 12 is `Answer::Blocked`.
 pub enum Refusal {
@@ -123,32 +124,35 @@ pub fn open_board(board: &mut [u16], n: u16) -> Answer
     Answer::Accepted(0)
 }
 
+fn refusal_of(f: Fault) -> Refusal
+    ensures { λ r. ⌜ code r ≡ faultNumber f ⌝ }
+{
+    match f {
+        Fault::NumberZero => Refusal::NumberZero,
+        Fault::BadCount => Refusal::BadCount,
+        Fault::OffBoard => Refusal::OffBoard,
+        Fault::NotRising => Refusal::NotRising,
+    }
+}
+
 // The checks 7 to 11, of the order itself.
 pub(crate) fn gate_order(board: &[u16], number: u16, count: u16, row: [u16; 8]) -> Gate
     requires { ⌜ T (passes (now board)) ⌝ }
     ensures { λ r. ⌜ gateCode r ≡ first (laterChecks number count row (now (board .entry))) ⌝ }
 {
-    if number == 0 {
-        return Gate::Stop(Refusal::NumberZero);
-    }
-    if count == 0 {
-        return Gate::Stop(Refusal::BadCount);
-    }
-    if MOST_CHOICES < count {
-        return Gate::Stop(Refusal::BadCount);
-    }
     let n = board[SIZE];
-    let c = count as usize;
-    if !row_within(n, c, row) {
-        return Gate::Stop(Refusal::OffBoard);
+    let v = judge(n, number, count, row);
+    match v {
+        Verdict::Faulty(f) => {
+            return Gate::Stop(refusal_of(f));
+        }
+        Verdict::Fine => {
+            if is_held(board, n, number) {
+                return Gate::Stop(Refusal::HeldAlready);
+            }
+            return Gate::Pass;
+        }
     }
-    if !row_rises(n, c, row) {
-        return Gate::Stop(Refusal::NotRising);
-    }
-    if is_held(board, n, number) {
-        return Gate::Stop(Refusal::HeldAlready);
-    }
-    Gate::Pass
 }
 
 // The row with 0 beyond its count.

@@ -1,10 +1,9 @@
-// Whether a board passes the check; the tests of a row and of a number that the calls share with it.
+// Whether a board passes the check; the lookup of a number, which the calls share with it.
 ghost use mathlib.Core.Path.{_≡_};
 ghost use Prim.Native.Nat.{_≤_};
 ghost use lib.ListN.{length, take};
-ghost use Rattle.matching.specs.Lists.{slots, member, rising, any, all};
+ghost use Rattle.matching.specs.Lists.{slots, member, any, all};
 ghost use Rattle.matching.specs.Orders.{sameNumber};
-ghost use Rattle.rules.specs.Calls.{onBoard};
 ghost use Rattle.rules.specs.Check.{zeros, lowLabel, heldFine, slotFine, noneTwice, passes};
 ghost use Rattle.rules.specs.Layout.{mostSlots, mostChoices, boardWords};
 ghost use Rattle.board.specs.Carry.{RowOn, heldOn, OnBoard};
@@ -19,6 +18,7 @@ use crate::words::is_free;
 use crate::words::label_at;
 use crate::words::loose_at;
 use crate::words::number_at;
+use orders::row_rises;
 
 // Slot s is among the first `count` of the row.
 fn is_among(s: u16, count: usize, row: [u16; 8]) -> bool
@@ -33,44 +33,6 @@ fn is_among(s: u16, count: usize, row: [u16; 8]) -> bool
         i += 1;
     }
     false
-}
-
-// Each of the first `count` is 1 to n.
-pub(crate) fn row_within(n: u16, count: usize, row: [u16; 8]) -> bool
-    requires { ⌜ count ≤ mostChoices ⌝ }
-    ensures { λ r. ⌜ r ≡ onBoard n (take count row) ⌝ }
-{
-    let mut i: usize = 0;
-    while i < count {
-        if row[i] == 0 {
-            return false;
-        }
-        if n < row[i] {
-            return false;
-        }
-        i += 1;
-    }
-    true
-}
-
-// The first `count` rise strictly, within 1 to n.
-pub(crate) fn row_rises(n: u16, count: usize, row: [u16; 8]) -> bool
-    requires { ⌜ count ≤ mostChoices ⌝ }
-    ensures { λ r. ⌜ r ≡ rising n 0 (take count row) ⌝ }
-{
-    let mut last: u16 = 0;
-    let mut i: usize = 0;
-    while i < count {
-        if row[i] <= last {
-            return false;
-        }
-        if n < row[i] {
-            return false;
-        }
-        last = row[i];
-        i += 1;
-    }
-    true
 }
 
 // The label of slot s is at most 1 more than that of each other slot of the row's first `count`.

@@ -5,6 +5,7 @@ use mathlib.Core.Logic.{_⊎_, inl, inr, _≢_, ⊎-elim}
 use mathlib.Core.List.{List, [], _∷_, _++_, List·Memᴰ as Mem, List·Memᴰ·head as here, List·Memᴰ·tail as there}
 use Prim.Native.Nat.{ℕ, zero, suc, _+_, _-_, _*_, _≤_, _<_}
 use native.Mathlib.Omega.{arith}
+use borrow.Author.Tests.{ne-eqb}
 use lib.Dec.{T, eqb, leb, ltb, eqb→eq, eqb-refl, leb→le, le→leb, ltb→lt, nltb→le, not-T, T-not}
 use lib.ListN.{length, take, drop, replicate, set, length-take}
 use lib.Seq.{take-append-seam}
@@ -14,7 +15,7 @@ use Rattle.matching.proofs.Counting.{cond-no, and-l, and-r}
 use Rattle.matching.proofs.Moves.{Ready}
 use Rattle.matching.proofs.Seated.{in-slots}
 use Rattle.matching.proofs.Sets.{all-at, rising-at}
-use Rattle.rules.specs.Calls.{accept, order, first, isHeld, checks}
+use Rattle.rules.specs.Calls.{Check, accept, order, first, orderChecks, isHeld, checks}
 use Rattle.rules.specs.Check.{passes}
 use Rattle.rules.specs.Demand3.{named}
 use Rattle.rules.specs.Layout.{word, row8, held, workWords}
@@ -39,6 +40,22 @@ first-le m (c ∷ cs) t = go (c .1) (leb→le (c .0) m (and-l (leb (c .0) m) (al
     go : (b : Bool) → c .0 ≤ m → first cs ≤ m → cond b (c .0) (first cs) ≤ m
     go true h k = h
     go false h k = k
+
+-- the checks of two lists, one after the other
+first-append : (cs more : List Check) → T (all (λ c. leb 1 (c .0)) cs) → first (cs ++ more) ≡ cond (eqb (first cs) 0) (first more) (first cs)
+first-append [] more p = refl
+first-append (c ∷ cs) more p =
+    go (c .1) (leb→le 1 (c .0) (and-l (leb 1 (c .0)) (all (λ d. leb 1 (d .0)) cs) p)) (first-append cs more (and-r (leb 1 (c .0)) (all (λ d. leb 1 (d .0)) cs) p))
+  where
+    go : (b : Bool) → 1 ≤ c .0 → first (cs ++ more) ≡ cond (eqb (first cs) 0) (first more) (first cs)
+        → cond b (c .0) (first (cs ++ more)) ≡ cond (eqb (cond b (c .0) (first cs)) 0) (first more) (cond b (c .0) (first cs))
+    go true h e = rw (ne-eqb (c .0) 0 (λ z. omega arith))
+    go false h e = e
+
+-- 7 to 10, and what a caller checks after them
+pub first-order : (n k c : ℕ) (row : List ℕ) (more : List Check)
+    → first (orderChecks n k c row more) ≡ cond (eqb (first (orderChecks n k c row [])) 0) (first more) (first (orderChecks n k c row []))
+first-order n k c row more = first-append (orderChecks n k c row []) more tt
 
 pub un-not : (b : Bool) → T (not (not b)) → T b
 un-not true t = tt
@@ -84,6 +101,16 @@ not-or-r false b t = t
 pub not-and-r : (a b : Bool) → T a → T (not (a && b)) → T (not b)
 not-and-r true b s t = t
 not-and-r false b s t = absurd s
+
+-- what an order that passes 7 to 10 is
+module _ (n k c : ℕ) (row : List ℕ) (more : List Check) (p : T (all (λ d. not (d .1)) (orderChecks n k c row more))) where
+  pub order-named : 1 ≤ k
+  order-named = pos k (search (and-l, and-r) depth 9)
+
+  pub order-count : (1 ≤ c) × (c ≤ 8)
+  order-count =
+      let t = un-not (leb 1 c && leb c 8) (search (and-l, and-r) depth 9) in
+      (leb→le 1 c (and-l (leb 1 c) (leb c 8) t), leb→le c 8 (and-r (leb 1 c) (leb c 8) t))
 
 module _ (k c : ℕ) (row w work : List ℕ) (clear : first (checks (accept k c row) w work) ≡ 0) where
   abbrev x : Order

@@ -8,7 +8,7 @@ use native.Mathlib.Omega.{arith}
 use native.Mathlib.Decide.{decLt}
 use lib.Dec.{T, eqb, eqb→eq, not-T}
 use lib.ListN.{length, getD, take, drop, replicate, set, length-set, length-append, length-take, length-replicate}
-use lib.Seq.{sets, length-sets, getD-set-same, getD-set-other, take-take, take-append-seam, length-take-le}
+use lib.Seq.{sets, length-sets, getD-set-same, getD-set-other, take-take, take-append-seam, length-take-le, take-at}
 use Rattle.matching.specs.Lists.{slots}
 use Rattle.matching.specs.Orders.{Order, openSlots}
 use Rattle.matching.specs.Placing.{newLabel}
@@ -51,6 +51,10 @@ length-row8 l = length-take-le 8 (l ++ replicate 8 0) (omega (arith, length-appe
 
 pub take-row8 : (l : List ℕ) → length l ≤ 8 → take (length l) (row8 l) ≡ l
 take-row8 l h = take-take (length l) 8 (l ++ replicate 8 0) h ∙ take-append-seam l (replicate 8 0)
+
+-- a row of eight is its own row
+pub row8-same : (row : List ℕ) → length row ≡ 8 → row8 row ≡ row
+row8-same row h = take-at row (replicate 8 0) 8 h
 
 module _ (n : ℕ) (w : List ℕ) (x : Order) (v : ℕ) (fits : boardWords n ≤ length w) (r : Ready n x) (m : Mem v (slots n)) where
   abbrev new : ℕ

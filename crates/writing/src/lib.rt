@@ -5,14 +5,16 @@ ghost use Prim.Native.Nat.{_+_, _≤_, _<_, min};
 ghost use lib.Dec.{leb};
 ghost use lib.ListN.{length, take, drop};
 ghost use lib.Seq.{sets};
-ghost use Rattle.matching.specs.Lists.{rising};
 ghost use Rattle.rules.specs.Text.{column, textLine};
-ghost use Rattle.rules.specs.Calls.{onBoard};
 ghost use Rattle.rules.specs.Lines.{orderLine, written};
 ghost use Rattle.rules.specs.Answers.{printed, blockedLines};
 ghost use Rattle.writing.specs.Writing.{Puts};
-ghost use Rattle.writing.specs.Wrote.{wroteOf};
+ghost use Rattle.writing.specs.Wrote.{numberOf, wroteOf};
 ghost use Rattle.writing.specs.Storing.{placeOf, Room, Stores, linesBytes, slotsLine};
+ghost use Rattle.orders.specs.Verdict.{faultNumber};
+use orders::Fault;
+use orders::Verdict;
+use orders::judge;
 
 // Why an order is not written.
 pub enum WriteRefusal {
@@ -160,44 +162,6 @@ pub fn put_blocked(out: &mut [u8], at: usize, blocked: &[u16]) -> usize
     end
 }
 
-// The first `count` are 1 to n.
-fn row_within(n: u16, count: usize, row: [u16; 8]) -> bool
-    requires { ⌜ count ≤ 8 ⌝ }
-    ensures { λ r. ⌜ r ≡ onBoard n (take count row) ⌝ }
-{
-    let mut i: usize = 0;
-    while i < count {
-        if row[i] == 0 {
-            return false;
-        }
-        if n < row[i] {
-            return false;
-        }
-        i += 1;
-    }
-    true
-}
-
-// The first `count` rise strictly, within 1 to n.
-fn row_rises(n: u16, count: usize, row: [u16; 8]) -> bool
-    requires { ⌜ count ≤ 8 ⌝ }
-    ensures { λ r. ⌜ r ≡ rising n 0 (take count row) ⌝ }
-{
-    let mut last: u16 = 0;
-    let mut i: usize = 0;
-    while i < count {
-        if row[i] <= last {
-            return false;
-        }
-        if n < row[i] {
-            return false;
-        }
-        last = row[i];
-        i += 1;
-    }
-    true
-}
-
 // The columns of an order's line: its number, then its row.
 fn order_values(number: u16, row: [u16; 8]) -> [u64; 9]
     ensures { λ r. ⌜ r ≡ number ∷ row ⌝ }
@@ -224,29 +188,33 @@ fn put_order(buffer: &mut [u8], number: u16, count: usize, row: [u16; 8]) -> usi
     put_line(buffer, 0, 6, 65, &values[..count + 1])
 }
 
+fn refusal_of(f: Fault) -> WriteRefusal
+    ensures { λ r. ⌜ numberOf r ≡ faultNumber f ⌝ }
+{
+    match f {
+        Fault::NumberZero => WriteRefusal::NumberZero,
+        Fault::BadCount => WriteRefusal::BadCount,
+        Fault::OffBoard => WriteRefusal::OffBoard,
+        Fault::NotRising => WriteRefusal::NotRising,
+    }
+}
+
 // The order writer. Refused, it writes nothing.
 pub fn write_order(buffer: &mut [u8], number: u16, count: u16, row: [u16; 8]) -> Wrote
     ensures { λ r. ⌜ wroteOf r (now (buffer .exit)) ≡ written number count row (now (buffer .entry)) ⌝ }
 {
-    if number == 0 {
-        return Wrote::Refused(WriteRefusal::NumberZero);
+    let v = judge(1024, number, count, row);
+    match v {
+        Verdict::Faulty(f) => {
+            return Wrote::Refused(refusal_of(f));
+        }
+        Verdict::Fine => {
+            let c = count as usize;
+            if buffer.len() < 8 + 6 * c {
+                return Wrote::Refused(WriteRefusal::Short);
+            }
+            let end = put_order(buffer, number, c, row);
+            return Wrote::Written(end);
+        }
     }
-    if count == 0 {
-        return Wrote::Refused(WriteRefusal::BadCount);
-    }
-    if 8 < count {
-        return Wrote::Refused(WriteRefusal::BadCount);
-    }
-    let c = count as usize;
-    if !row_within(1024, c, row) {
-        return Wrote::Refused(WriteRefusal::OffBoard);
-    }
-    if !row_rises(1024, c, row) {
-        return Wrote::Refused(WriteRefusal::NotRising);
-    }
-    if buffer.len() < 8 + 6 * c {
-        return Wrote::Refused(WriteRefusal::Short);
-    }
-    let end = put_order(buffer, number, c, row);
-    Wrote::Written(end)
 }
