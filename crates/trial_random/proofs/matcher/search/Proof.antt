@@ -1,0 +1,100 @@
+-- `trial_random::matcher::search` is safe and ends. The rows that were gone on from are counted, and the words' number stays.
+use Prim.Native.Nat.{_≤_, _-_}
+use mathlib.Core.Path.{_≡_}
+use lib.ListN.{length}
+use borrow.Author.Needs.{needs}
+use Rattle.trial_random.proofs.matcher.search.Statement.{statement}
+use Rattle.trial_random.proofs.matcher.search.Tie as tie
+
+abbrev Inv-loop : tie.InvT-loop
+Inv-loop own₀ k head₀ own head = (head ≤ 1040) × (length own ≡ length own₀)
+
+abbrev μ-loop : tie.MeasureT-loop
+μ-loop own₀ k head₀ own head = 1040 - head
+
+zero-words-requires : tie.Need-zero-words-requires Inv-loop μ-loop
+zero-words-requires c κs = search needs
+
+put-requires : tie.Need-put-requires Inv-loop μ-loop
+put-requires c κs = search needs
+
+put-requires-2 : tie.Need-put-requires-2 Inv-loop μ-loop
+put-requires-2 c κs = search needs
+
+enqueue-requires : tie.Need-enqueue-requires Inv-loop μ-loop
+enqueue-requires c κs = search needs
+
+loop-holds : tie.Need-loop-holds Inv-loop μ-loop
+loop-holds c = search needs
+
+get-requires : tie.Need-get-requires Inv-loop μ-loop
+get-requires c κs = search needs
+
+same-length : tie.Need-same-length Inv-loop μ-loop
+same-length c = search needs
+
+returns : tie.Need-returns Inv-loop μ-loop
+returns c = search needs
+
+get-requires-2 : tie.Need-get-requires-2 Inv-loop μ-loop
+get-requires-2 c κs = search needs
+
+same-length-2 : tie.Need-same-length-2 Inv-loop μ-loop
+same-length-2 c = search needs
+
+returns-2 : tie.Need-returns-2 Inv-loop μ-loop
+returns-2 c = search needs
+
+cast-get : tie.Need-cast-get Inv-loop μ-loop
+cast-get c = search needs
+
+add-get : tie.Need-add-get Inv-loop μ-loop
+add-get c = search needs
+
+get-requires-3 : tie.Need-get-requires-3 Inv-loop μ-loop
+get-requires-3 c κs = search needs
+
+visit-list-requires : tie.Need-visit-list-requires Inv-loop μ-loop
+visit-list-requires c κs = search needs
+
+add-head : tie.Need-add-head Inv-loop μ-loop
+add-head c = search needs
+
+loop-less : tie.Need-loop-less Inv-loop μ-loop
+loop-less c = search needs
+
+loop-again : tie.Need-loop-again Inv-loop μ-loop
+loop-again c = search needs
+
+same-length-3 : tie.Need-same-length-3 Inv-loop μ-loop
+same-length-3 c = search needs
+
+returns-3 : tie.Need-returns-3 Inv-loop μ-loop
+returns-3 c = search needs
+
+pub search-spec : {M : Type 1} → statement M
+search-spec =
+    tie.close
+    (tie.spec
+    Inv-loop
+    μ-loop
+    zero-words-requires
+    put-requires
+    put-requires-2
+    enqueue-requires
+    loop-holds
+    get-requires
+    same-length
+    returns
+    get-requires-2
+    same-length-2
+    returns-2
+    cast-get
+    add-get
+    get-requires-3
+    visit-list-requires
+    add-head
+    loop-less
+    loop-again
+    same-length-3
+    returns-3)
