@@ -49,7 +49,7 @@ fn write(notes: &mut [usize], i: usize, v: usize) {
     }
 }
 
-pub fn count_up(notes: &mut [usize], i: usize) {
+pub(crate) fn count_up(notes: &mut [usize], i: usize) {
     let v = look(notes, i);
     if v < 1000000 {
         write(notes, i, v + 1);
@@ -85,7 +85,7 @@ fn say_result(notes: &[usize], tried: usize, wrong: usize) {
 }
 
 // The group before is told, if there is one; the new group's name follows.
-pub fn begin_group(notes: &mut [usize]) {
+pub(crate) fn begin_group(notes: &mut [usize]) {
     if look(notes, TRIED) != 0 {
         say_result(notes, TRIED, WRONG);
     }
@@ -93,7 +93,7 @@ pub fn begin_group(notes: &mut [usize]) {
     write(notes, WRONG, 0);
 }
 
-pub fn close(notes: &mut [usize]) {
+pub(crate) fn close(notes: &mut [usize]) {
     begin_group(notes);
     say(b"lines read ");
     say_note(notes, LINES);
@@ -301,7 +301,7 @@ fn arrange(
     }
 }
 
-pub fn command(
+pub(crate) fn command(
     letter: u8,
     count: usize,
     tokens: &[u16],

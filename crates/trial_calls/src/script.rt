@@ -143,7 +143,7 @@ fn one_byte(
     line_byte(st, b, tokens, notes)
 }
 
-pub fn run(
+pub(crate) fn run(
     text: &[u8],
     tokens: &mut [u16],
     board: &mut [u16],

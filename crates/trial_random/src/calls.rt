@@ -356,7 +356,7 @@ fn size_rounds(
 }
 
 // Small boards, in many rounds.
-pub fn small_sizes(
+pub(crate) fn small_sizes(
     board: &mut [u16],
     before: &mut [u16],
     work: &mut [u16],
@@ -368,7 +368,7 @@ pub fn small_sizes(
     size_rounds(3, 60, 60, board, before, work, own, notes);
 }
 
-pub fn middle_sizes(
+pub(crate) fn middle_sizes(
     board: &mut [u16],
     before: &mut [u16],
     work: &mut [u16],
@@ -381,7 +381,7 @@ pub fn middle_sizes(
 }
 
 // Large boards, in few rounds of many calls.
-pub fn large_sizes(
+pub(crate) fn large_sizes(
     board: &mut [u16],
     before: &mut [u16],
     work: &mut [u16],

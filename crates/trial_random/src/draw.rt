@@ -10,7 +10,7 @@ use crate::ledger::size;
 use crate::tally::next;
 
 // A random number below k, and 0 where k is 0.
-pub fn below(notes: &mut [u64], k: u16) -> u16
+pub(crate) fn below(notes: &mut [u64], k: u16) -> u16
     ensures { λ r. ⌜ r ≤ k - 1 ⌝ }
 {
     let x = next(notes);
@@ -50,7 +50,7 @@ fn some_number(notes: &mut [u64]) -> u16 {
 }
 
 // A number that is not held.
-pub fn unheld(own: &[u16], notes: &mut [u64]) -> u16 {
+pub(crate) fn unheld(own: &[u16], notes: &mut [u64]) -> u16 {
     let v = some_number(notes);
     unheld_from(own, v)
 }
@@ -120,7 +120,7 @@ fn list(own: &mut [u16], notes: &mut [u64]) {
 }
 
 // The order that is tried, with a number that is not held.
-pub fn order(own: &mut [u16], notes: &mut [u64]) {
+pub(crate) fn order(own: &mut [u16], notes: &mut [u64]) {
     list(own, notes);
     let k = held(own);
     let v = unheld(own, notes);

@@ -93,7 +93,7 @@ fn orders_stand(own: &mut [u16], board: &[u16]) -> bool {
 }
 
 // After each call. The work words begin with s blocked slots.
-pub fn after(own: &mut [u16], board: &[u16], work: &[u16], s: usize, notes: &mut [u64]) {
+pub(crate) fn after(own: &mut [u16], board: &[u16], work: &[u16], s: usize, notes: &mut [u64]) {
     let n = size(own);
     note(notes, check(board));
     note(notes, get(board, 0) == n);
@@ -104,7 +104,7 @@ pub fn after(own: &mut [u16], board: &[u16], work: &[u16], s: usize, notes: &mut
 }
 
 // Each label of a held slot becomes at most `most`. Where the board passes the check it still does.
-pub fn lower_labels(board: &mut [u16], n: u16, most: u16) {
+pub(crate) fn lower_labels(board: &mut [u16], n: u16, most: u16) {
     let mut s: u16 = 0;
     while s < n {
         s += 1;
@@ -126,7 +126,7 @@ fn without(board: &mut [u16], n: u16, v: u16) {
     }
 }
 
-pub fn withdrawn(board: &mut [u16], n: u16, v: u16) {
+pub(crate) fn withdrawn(board: &mut [u16], n: u16, v: u16) {
     without(board, n, v);
     lower_labels(board, n, 1);
     let m = get(board, 1);

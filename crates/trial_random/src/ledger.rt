@@ -21,31 +21,31 @@ const LISTS: usize = 4170;
 
 const TABLE: usize = 13600;
 
-pub fn size(own: &[u16]) -> u16 {
+pub(crate) fn size(own: &[u16]) -> u16 {
     get(own, SIZE)
 }
 
 // How many orders are held.
-pub fn held(own: &[u16]) -> u16 {
+pub(crate) fn held(own: &[u16]) -> u16 {
     get(own, HELD)
 }
 
-pub fn number(own: &[u16], k: u16) -> u16 {
+pub(crate) fn number(own: &[u16], k: u16) -> u16 {
     get(own, NUMBERS + k as usize)
 }
 
 // The slot of row k in the program's own matching, or 0.
-pub fn seat(own: &[u16], k: u16) -> u16 {
+pub(crate) fn seat(own: &[u16], k: u16) -> u16 {
     get(own, SEATS + k as usize)
 }
 
 // 1 + the row that has slot s in the program's own matching, or 0.
-pub fn owner(own: &[u16], s: u16) -> u16 {
+pub(crate) fn owner(own: &[u16], s: u16) -> u16 {
     get(own, OWNERS + s as usize)
 }
 
 // 1 + the row that the number v has, or 0.
-pub fn row_of(own: &[u16], v: u16) -> u16 {
+pub(crate) fn row_of(own: &[u16], v: u16) -> u16 {
     get(own, TABLE + v as usize)
 }
 
@@ -53,33 +53,33 @@ fn list_word(k: u16, j: u16) -> usize {
     LISTS + 9 * (k as usize) + (j as usize)
 }
 
-pub fn list_count(own: &[u16], k: u16) -> u16 {
+pub(crate) fn list_count(own: &[u16], k: u16) -> u16 {
     get(own, list_word(k, 0))
 }
 
 // The choice j of row k, 1 to 8, or 0.
-pub fn choice(own: &[u16], k: u16, j: u16) -> u16 {
+pub(crate) fn choice(own: &[u16], k: u16, j: u16) -> u16 {
     get(own, list_word(k, j))
 }
 
-pub fn put_number(own: &mut [u16], k: u16, v: u16) {
+pub(crate) fn put_number(own: &mut [u16], k: u16, v: u16) {
     put(own, NUMBERS + k as usize, v);
 }
 
 // Row k takes slot s in the program's own matching.
-pub fn settle(own: &mut [u16], k: u16, s: u16) {
+pub(crate) fn settle(own: &mut [u16], k: u16, s: u16) {
     put(own, SEATS + k as usize, s);
     if k < 65535 {
         put(own, OWNERS + s as usize, k + 1);
     }
 }
 
-pub fn clear_list(own: &mut [u16], k: u16) {
+pub(crate) fn clear_list(own: &mut [u16], k: u16) {
     zero_words(own, list_word(k, 0), list_word(k, 9));
 }
 
 // One slot more on the list of row k, up to eight.
-pub fn append(own: &mut [u16], k: u16, s: u16) {
+pub(crate) fn append(own: &mut [u16], k: u16, s: u16) {
     let c = list_count(own, k);
     if c < 8 {
         put(own, list_word(k, c + 1), s);
@@ -87,7 +87,7 @@ pub fn append(own: &mut [u16], k: u16, s: u16) {
     }
 }
 
-pub fn row(own: &[u16], k: u16) -> [u16; 8] {
+pub(crate) fn row(own: &[u16], k: u16) -> [u16; 8] {
     [
         choice(own, k, 1),
         choice(own, k, 2),
@@ -101,14 +101,14 @@ pub fn row(own: &[u16], k: u16) -> [u16; 8] {
 }
 
 // Nothing is held, and the board has n slots.
-pub fn open(own: &mut [u16], n: u16) {
+pub(crate) fn open(own: &mut [u16], n: u16) {
     let len = own.len();
     zero_words(own, 0, len);
     put(own, SIZE, n);
 }
 
 // Row m is held from now on.
-pub fn enter(own: &mut [u16]) {
+pub(crate) fn enter(own: &mut [u16]) {
     let m = held(own);
     let v = number(own, m);
     if m < 1024 {
@@ -142,7 +142,7 @@ fn move_row(own: &mut [u16], from: u16, to: u16) {
 }
 
 // Row k is held no longer.
-pub fn strike(own: &mut [u16], k: u16) {
+pub(crate) fn strike(own: &mut [u16], k: u16) {
     let m = held(own);
     if k >= m {
         return;
@@ -158,13 +158,13 @@ pub fn strike(own: &mut [u16], k: u16) {
 }
 
 // Whether row k was met on the board since `forget_met`; it is from now on.
-pub fn meet(own: &mut [u16], k: u16) -> bool {
+pub(crate) fn meet(own: &mut [u16], k: u16) -> bool {
     let at = MET + k as usize;
     let old = get(own, at);
     put(own, at, 1);
     old != 0
 }
 
-pub fn forget_met(own: &mut [u16]) {
+pub(crate) fn forget_met(own: &mut [u16]) {
     zero_words(own, MET, LISTS);
 }

@@ -65,7 +65,7 @@ fn visit_list(own: &mut [u16], k: u16) {
 }
 
 // A free slot that row k reaches, or 0 once there is nothing more to reach.
-pub fn search(own: &mut [u16], k: u16) -> u16 {
+pub(crate) fn search(own: &mut [u16], k: u16) -> u16 {
     zero_words(own, VIA, END);
     put(own, FREE, 0);
     put(own, TAIL, 0);
@@ -87,7 +87,7 @@ pub fn search(own: &mut [u16], k: u16) -> u16 {
 }
 
 // Each row on the way back from slot `free` takes the slot that was reached from it.
-pub fn augment(own: &mut [u16], free: u16) {
+pub(crate) fn augment(own: &mut [u16], free: u16) {
     let mut s = free;
     let mut turns: u16 = 0;
     while turns < 1040 {
@@ -106,7 +106,7 @@ pub fn augment(own: &mut [u16], free: u16) {
 }
 
 // The slots that the last search reached, rising, are the list.
-pub fn reached_are(own: &[u16], list: &[u16]) -> bool {
+pub(crate) fn reached_are(own: &[u16], list: &[u16]) -> bool {
     let n = size(own);
     let mut p: usize = 0;
     let mut s: u16 = 0;

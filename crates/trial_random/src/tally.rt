@@ -35,18 +35,18 @@ const WRONG: usize = 13;
 // How far behind a count of one n its total stands.
 const TOTAL: usize = 14;
 
-pub fn look(notes: &[u64], i: usize) -> u64 {
+pub(crate) fn look(notes: &[u64], i: usize) -> u64 {
     if i < notes.len() { notes[i] } else { 0 }
 }
 
-pub fn write(notes: &mut [u64], i: usize, v: u64) {
+pub(crate) fn write(notes: &mut [u64], i: usize, v: u64) {
     if i < notes.len() {
         notes[i] = v;
     }
 }
 
 // v more, up to a bound that no run meets.
-pub fn raise(notes: &mut [u64], i: usize, v: u64) {
+pub(crate) fn raise(notes: &mut [u64], i: usize, v: u64) {
     let old = look(notes, i);
     if old > 1000000000000 {
         return;
@@ -57,31 +57,31 @@ pub fn raise(notes: &mut [u64], i: usize, v: u64) {
     write(notes, i, old + v);
 }
 
-pub fn count(notes: &mut [u64], i: usize) {
+pub(crate) fn count(notes: &mut [u64], i: usize) {
     raise(notes, i, 1);
     if i < 64 {
         raise(notes, i + TOTAL, 1);
     }
 }
 
-pub fn count_if(notes: &mut [u64], i: usize, yes: bool) {
+pub(crate) fn count_if(notes: &mut [u64], i: usize, yes: bool) {
     if yes {
         count(notes, i);
     }
 }
 
 // One comparison.
-pub fn note(notes: &mut [u64], good: bool) {
+pub(crate) fn note(notes: &mut [u64], good: bool) {
     count(notes, CHECKS);
     count_if(notes, WRONG, !good);
 }
 
-pub fn seed(notes: &mut [u64]) {
+pub(crate) fn seed(notes: &mut [u64]) {
     write(notes, STATE, 88172645463325252);
 }
 
 // The next random number: xorshift with 64 bits.
-pub fn next(notes: &mut [u64]) -> u64 {
+pub(crate) fn next(notes: &mut [u64]) -> u64 {
     let x = look(notes, STATE);
     let y = x ^ (x << 13);
     let z = y ^ (y >> 7);
@@ -91,7 +91,7 @@ pub fn next(notes: &mut [u64]) -> u64 {
 }
 
 // The counts of one n begin anew.
-pub fn clear(notes: &mut [u64]) {
+pub(crate) fn clear(notes: &mut [u64]) {
     let mut i = MOVES;
     while i < TOTAL {
         write(notes, i, 0);
@@ -129,14 +129,14 @@ fn say_others(notes: &[u64], by: usize) {
     say(b"\n");
 }
 
-pub fn say_size(notes: &[u64], n: u16) {
+pub(crate) fn say_size(notes: &[u64], n: u16) {
     say(b"n ");
     say_number(n as u64);
     say_orders(notes, 0);
     say_others(notes, 0);
 }
 
-pub fn say_all(notes: &[u64]) {
+pub(crate) fn say_all(notes: &[u64]) {
     say(b"all");
     say_orders(notes, TOTAL);
     say_others(notes, TOTAL);
