@@ -29,7 +29,7 @@ fn places(count: usize) -> usize
 }
 
 // Each of the first `count` is 1 to n.
-pub fn row_within(n: u16, count: usize, row: [u16; 8]) -> bool
+fn row_within(n: u16, count: usize, row: [u16; 8]) -> bool
     ensures { λ r. ⌜ r ≡ onBoard n (take count row) ⌝ }
 {
     let end = places(count);

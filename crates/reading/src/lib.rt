@@ -46,7 +46,7 @@ struct Columns {
 }
 
 // Each letter has its own allowed count of columns.
-pub fn classify(letter: u8, count: usize) -> Kind
+fn classify(letter: u8, count: usize) -> Kind
     ensures { λ r. ⌜ r ≡ classOf letter count ⌝ }
 {
     match letter {
@@ -268,33 +268,33 @@ fn byte_at(s: &[u8], at: usize) -> u8
 }
 
 // A line's bytes, and how far the reading has come.
-pub struct LineReader<'a> {
+struct LineReader<'a> {
     pub line: &'a [u8],
     pub at: usize,
 }
 
-pub fn start<'a>(line: &'a [u8]) -> LineReader<'a>
+fn start<'a>(line: &'a [u8]) -> LineReader<'a>
     ensures { λ r. ⌜ (r .line ≡ line .entry) × (r .at ≡ 0) ⌝ }
 {
     LineReader { line, at: 0 }
 }
 
 // The byte where the reader stands.
-pub fn letter<'a>(r: LineReader<'a>) -> u8
+fn letter<'a>(r: LineReader<'a>) -> u8
     ensures { λ b. ⌜ b ≡ getD (now (r .entry .line)) (r .entry .at) 0 ⌝ }
 {
     byte_at(r.line, r.at)
 }
 
 // The reader, come as far as `at`.
-pub fn moved<'a>(r: LineReader<'a>, at: usize) -> LineReader<'a>
+fn moved<'a>(r: LineReader<'a>, at: usize) -> LineReader<'a>
     ensures { λ q. ⌜ (q .line ≡ r .entry .line) × (q .at ≡ at) ⌝ }
 {
     LineReader { line: r.line, at }
 }
 
 // The line of this letter whose columns are all that is left. The reader is passed by value: whatever the answer, a refusal too, the caller's own stands where it stood.
-pub fn rest<'a>(r: LineReader<'a>, letter: u8) -> Line
+fn rest<'a>(r: LineReader<'a>, letter: u8) -> Line
     ensures { λ t. ⌜ t ≡ lineOf (letter ∷ drop (r .entry .at) (now (r .entry .line))) ⌝ }
 {
     line_from(r.line, r.at, letter)
