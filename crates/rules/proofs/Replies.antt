@@ -103,6 +103,21 @@ modest q w work = go (answered q w work)
     go (does e) = modest-act q w work e
     go (refuses ne) = record { few = λ q. omega arith; passed = λ e. absurd (ne e) }
 
+-- a call leaves the board as it was, or one that passes the check
+pub stays-or-passes : (q : Call) (w work : List ℕ) → ((step q w work) .board ≡ w) ⊎ Passed ((step q w work) .board)
+unfolding refuse
+stays-or-passes q w work = go (answered q w work)
+  where
+    go : {r : Answer} → Answered q w work r → (r .board ≡ w) ⊎ Passed (r .board)
+    go (does e) = acts-or-stays q e
+      where
+        acts-or-stays : (q : Call) → first (checks q w work) ≡ 0 → ((act q w work) .board ≡ w) ⊎ Passed ((act q w work) .board)
+        acts-or-stays (open-board n) e = inr ((acts-open n w work (ledgerOf w) e) .inv .passed)
+        acts-or-stays (accept k c row) e = inr ((acts (accept k c row) w work (ledgerOf w) (inv-start w (board-passes w work (orderChecks (size w) k c row ((11, isHeld k w) ∷ [])) e)) e) .inv .passed)
+        acts-or-stays (withdraw k) e = inr ((acts (withdraw k) w work (ledgerOf w) (inv-start w (board-passes w work ((7, eqb k 0) ∷ (13, not (isHeld k w)) ∷ []) e)) e) .inv .passed)
+        acts-or-stays print e = inr ((acts print w work (ledgerOf w) (inv-start w (board-passes w work [] e)) e) .inv .passed)
+    go (refuses ne) = inl refl
+
 -- ---- the text
 
 text-fits : (r : Reply) (w work : List ℕ) → (r .refusal ≡ 12 → r .count ≤ 1024) → (r .refusal ≡ 0 → size w ≤ 1024) → length (replyText r w work) ≤ replyRoom
