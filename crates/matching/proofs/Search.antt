@@ -67,7 +67,7 @@ module _ {B : Type 0} (view : B → Board) (write : B → ℕ → Order → B) (
 
   module _ (Ok : B → Type 0)
       (writes : (b : B) (x : Order) (v : ℕ) → Ok b → Ready n x → Mem v (slots n) → Ok (write b v x) × Moving n (view b) (view (write b v x)) v x) where
-    -- what holds of a search's result, from the board b and the homeless order x after k moves, with so many turns left
+    -- what holds of a search's result, from the board b and the unplaced order x after k moves, with so many turns left
     pub record Held (b : B) (x : Order) (k : ℕ) (b′ : B) (k′ : ℕ) : Type 0 where
       pub ok : Ok b′
       pub fine : Good n (view b′)

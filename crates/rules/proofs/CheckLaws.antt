@@ -56,6 +56,10 @@ of-fine n w s f =
 
 -- ---- who is held
 
+pub pos : (k : ℕ) → T (not (eqb k 0)) → 1 ≤ k
+pos zero t = absurd (T-not (eqb 0 0) t (eqb-refl 0))
+pos (suc k) t = omega arith
+
 pub held-one : (w : List ℕ) (s : ℕ) (o : Order) → Mem o (heldAt w s) → (1 ≤ numberAt w s) × (o ≡ orderAt w s)
 held-one w s o m = go (dec-T (eqb (numberAt w s) 0))
   where
@@ -65,10 +69,6 @@ held-one w s o m = go (dec-T (eqb (numberAt w s) 0))
       pos (numberAt w s) t,
       List·Memᴰ·eq-of-singleton (subst (λ (l : List Order). Mem o l) (cond-no (eqb (numberAt w s) 0) [] (orderAt w s ∷ []) t) m),
     )
-      where
-        pos : (k : ℕ) → T (not (eqb k 0)) → 1 ≤ k
-        pos zero t = absurd (T-not (eqb 0 0) t (eqb-refl 0))
-        pos (suc k) t = omega arith
 
 pub held-none : (w : List ℕ) (s : ℕ) → numberAt w s ≡ 0 → heldAt w s ≡ []
 held-none w s e = cond-yes (eqb (numberAt w s) 0) [] (orderAt w s ∷ []) (subst (λ (k : ℕ). T (eqb k 0)) (sym e) (eqb-refl 0))

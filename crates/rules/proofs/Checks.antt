@@ -20,6 +20,7 @@ use Rattle.rules.specs.Check.{passes}
 use Rattle.rules.specs.Demand3.{named}
 use Rattle.rules.specs.Layout.{word, row8, held, workWords}
 use Rattle.rules.proofs.WordLaws.{length-row8}
+use Rattle.rules.proofs.CheckLaws.{pos}
 
 -- ---- the table of refusals
 
@@ -60,10 +61,6 @@ first-order n k c row more = first-append (orderChecks n k c row []) more tt
 pub un-not : (b : Bool) → T (not (not b)) → T b
 un-not true t = tt
 un-not false t = t
-
-pub pos : (k : ℕ) → T (not (eqb k 0)) → 1 ≤ k
-pos zero t = absurd (T-not (eqb 0 0) t (eqb-refl 0))
-pos (suc k) t = omega arith
 
 pub some-in : (l : List ℕ) → 1 ≤ length l → (t : ℕ) × Mem t l
 some-in [] h = absurd (omega arith)

@@ -19,8 +19,8 @@ use Rattle.rules.specs.Check.{goodSize}
 use Rattle.rules.specs.Layout.{word, view, writeAt, held, boardWords}
 use Rattle.rules.specs.Ledger.{ok, Ledger, feed, endsRun, movesOf, moves}
 use Rattle.rules.proofs.Accept.{take-in}
-use Rattle.rules.proofs.CheckLaws.{Passed}
-use Rattle.rules.proofs.Checks.{ready, clear-all, un-not, pos, some-held, not-or-r, not-and-r, fresh}
+use Rattle.rules.proofs.CheckLaws.{Passed, pos}
+use Rattle.rules.proofs.Checks.{ready, clear-all, un-not, some-held, not-or-r, not-and-r, fresh}
 use Rattle.rules.proofs.Opening.{open-up}
 use Rattle.rules.proofs.Withdraw.{take-out, countIf-strike}
 
