@@ -40,15 +40,17 @@ def refused(r, count, n):
 
 
 def shuffle(r, count, n):
-    """A chain with one free slot at its far end: each new order shifts the whole chain; then one order leaves."""
+    """A chain of overlapping lists with one free slot, at its far end: an order at the near end shifts the whole chain, and leaves again. Ends change places each time."""
     yield line("S", n)
     for k in range(1, n):
         yield line("A", k, k, k + 1)
-    made, k = n, 0
-    while made < count:
-        yield line("A", 30000, 1)
-        yield line("W", 30000)
-        made += 2
+    for made in range(n, count):
+        turn = made - n
+        guest = 30000 + turn // 2 % 2
+        if turn % 2 == 0:
+            yield line("A", guest, 1 if guest == 30000 else n)
+        else:
+            yield line("W", guest)
 
 
 def churn(r, count, n):

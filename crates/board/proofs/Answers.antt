@@ -19,7 +19,7 @@ use Rattle.rules.specs.Calls as Calls
 use Rattle.rules.specs.Calls.{opened, undecided, first, checks, boardChecks, openChecks, releasedAll, refuse, finished, act, step, cleared, onBoard, shortFor, isHeld}
 use Rattle.rules.specs.Check.{passes}
 use Rattle.rules.specs.Layout.{mostSlots, mostChoices, boardWords, word, row8, view, workWords}
-use Rattle.rules.proofs.CheckLaws.{passed-of}
+use Rattle.rules.proofs.CheckLaws.{Passed, passed-of, of-passed}
 use Rattle.rules.proofs.Checks as Checks
 use Rattle.rules.proofs.WordLaws.{take-row8, row8-same}
 use Rattle.board.specs.Carry.{carried, Bringing, placed}
@@ -135,17 +135,22 @@ gate-facts w work e = go (shortFor (word w 0) w) (passes w) refl (decLe (workWor
     go false true f (yes h) q = (subst (λ (t : Bool). T t) (sym f) tt, h)
     go false true f (no h) q = absurd (omega (arith, sym (ap {B = ℕ} (λ (t : Bool). cond t 6 0) (lt-ltb (length work) (workWords (word w 0)) (omega arith))) ∙ q))
 
-pub gate-clear : (w work : List ℕ) → T (passes w) → workWords (word w 0) ≤ length work → first (boardChecks w work []) ≡ 0
-gate-clear w work t h =
-    let p = passed-of w t in
+-- of a sound board only 6 is left to ask
+gate-sound : (w work : List ℕ) → Passed w → first (boardChecks w work []) ≡ cond (ltb (length work) (workWords (word w 0))) 6 0
+gate-sound w work p =
     rw (
       le-ltb (length w) 2 (omega (arith, p .sound .fits)),
       le-leb 1 (word w 0) (p .size),
       le-leb (word w 0) mostSlots (p .big),
       le-ltb (length w) (boardWords (word w 0)) (p .sound .fits),
-      is-true (passes w) t,
-      le-ltb (length work) (workWords (word w 0)) h,
+      is-true (passes w) (of-passed w p),
     )
+
+pub gate-clear : (w work : List ℕ) → Passed w → workWords (word w 0) ≤ length work → first (boardChecks w work []) ≡ 0
+gate-clear w work p h = gate-sound w work p ∙ rw (le-ltb (length work) (workWords (word w 0)) h)
+
+pub gate-little : (w work : List ℕ) → Passed w → length work < workWords (word w 0) → first (boardChecks w work []) ≡ 6
+gate-little w work p h = gate-sound w work p ∙ rw (lt-ltb (length work) (workWords (word w 0)) h)
 
 -- ---- the order as it is carried
 

@@ -7,9 +7,11 @@ pub mod Stores
 pub mod RowWalks
 pub mod Showing
 pub mod WorkWords
+pub mod Forgetting
 pub mod HeldOrders
 pub mod BringingIn
 pub mod Answers
+pub mod Knowing
 pub mod Releasing
 pub mod LineKinds
 pub mod ReplyTexts

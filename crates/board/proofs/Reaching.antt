@@ -27,6 +27,7 @@ empty n w o work r = record {
   few = omega arith;
   listed = λ i h. absurd (omega arith);
   found = λ t m h. let s = slots-range n m in absurd (omega (arith, of-seen n work t h, r .clean (n + t) (omega arith)));
+  rest = λ i ge le. r .clean i (omega arith);
 }
 
 module _ (n : ℕ) (w : List ℕ) (x : Order) (sound : Sound n w) (ready : Ready n x) (work₀ : List ℕ) where

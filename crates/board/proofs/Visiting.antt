@@ -107,6 +107,7 @@ module _ (n : ℕ) (w : List ℕ) (tail t : ℕ) (q : Queue n w tail) (lo : 1 �
     few = omega (arith, q .few, countIf-strict (seen n w) (seen n w′) keeps′ t-in unseen mine);
     listed = λ i h. lists i (ℕ-discrete i tail) h;
     found = λ s m h. finds s m (only′ s h);
+    rest = λ i ge le. off i (omega arith) (omega arith) ∙ q .rest i (omega arith) le;
   }
     where
       lists : (i : ℕ) → Dec (i ≡ tail) → i < tail + 1 → Mem (word w′ i) (slots n) × T (seen n w′ (word w′ i))

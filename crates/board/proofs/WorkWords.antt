@@ -18,6 +18,7 @@ use Rattle.matching.proofs.Seats.{Reach}
 use Rattle.rules.specs.Calls.{cleared}
 use Rattle.rules.specs.Layout.{word, workWords}
 use Rattle.rules.proofs.WordLaws.{sets-in, sets-after}
+use Rattle.board.specs.Gates.{Zeros}
 use Rattle.board.specs.Queue.{seen}
 
 -- zeros at the front of the words
@@ -32,6 +33,12 @@ cleared-is n w h =
     sets-eq (replicate (workWords n) 0) w 0 (omega (arith, e))
     ∙ ap (λ (k : ℕ). replicate (workWords n) 0 ++ drop k w) end
 
+pub length-cleared : (n : ℕ) (w : List ℕ) → workWords n ≤ length w → length (cleared n w) ≡ length w
+length-cleared n w h = ap length (sym (cleared-is n w h)) ∙ length-sets w 0 (replicate (workWords n) 0)
+
+pub cleared-zero : (n : ℕ) (w : List ℕ) → workWords n ≤ length w → Zeros 0 (workWords n) (cleared n w)
+cleared-zero n w h i low lt = ap (λ (l : List ℕ). word l i) (sym (cleared-is n w h)) ∙ clean-front (workWords n) w h i lt
+
 -- words that are 0 in front are cleared already
 pub cleared-twice : (n : ℕ) (w : List ℕ) → workWords n ≤ length w → ((i : ℕ) → i < workWords n → word w i ≡ 0) → cleared n w ≡ w
 cleared-twice n w h z =
@@ -44,6 +51,23 @@ cleared-twice n w h z =
     go i (yes lt) = clean-front m w h i lt ∙ sym (z i lt)
     go i (no ge) = sets-after (replicate m 0) w 0 i (omega (arith, length-replicate {A = ℕ} m 0))
 
+-- it is enough to clear those that may be something else
+pub tidied : (n k : ℕ) (w : List ℕ) → workWords n ≤ length w → k ≤ workWords n → Zeros k (workWords n) w → sets w 0 (replicate k 0) ≡ cleared n w
+tidied n k w h few z =
+    ext-getD 0 (sets w 0 (replicate k 0)) (sets w 0 (replicate m 0)) (length-sets w 0 (replicate k 0) ∙ sym (length-sets w 0 (replicate m 0))) (λ i lt. go i (decLt i k) (decLt i m))
+    ∙ cleared-is n w h
+  where
+    m : ℕ
+    m = workWords n
+
+    beyond : (j i : ℕ) → j ≤ i → word (sets w 0 (replicate j 0)) i ≡ word w i
+    beyond j i ge = sets-after (replicate j 0) w 0 i (omega (arith, length-replicate {A = ℕ} j 0))
+
+    go : (i : ℕ) → Dec (i < k) → Dec (i < m) → word (sets w 0 (replicate k 0)) i ≡ word (sets w 0 (replicate m 0)) i
+    go i (yes a) b = clean-front k w (omega arith) i a ∙ sym (clean-front m w h i (omega arith))
+    go i (no a) (yes b) = beyond k i (omega arith) ∙ z i (omega arith) b ∙ sym (clean-front m w h i b)
+    go i (no a) (no b) = beyond k i (omega arith) ∙ sym (beyond m i (omega arith))
+
 -- the used words are cleared again
 pub restored : (k : ℕ) (w w′ : List ℕ) → k ≤ length w → length w′ ≡ length w → ((i : ℕ) → i < k → word w i ≡ 0) → ((i : ℕ) → k ≤ i → word w′ i ≡ word w i)
     → sets w′ 0 (replicate k 0) ≡ w
@@ -53,25 +77,26 @@ restored k w w′ h e z f = ext-getD 0 (sets w′ 0 (replicate k 0)) w (length-s
     go i (yes lt) = clean-front k w′ (omega arith) i lt ∙ sym (z i lt)
     go i (no ge) = sets-after (replicate k 0) w′ 0 i (omega (arith, length-replicate {A = ℕ} k 0)) ∙ f i (omega arith)
 
+-- a list at the front of the words
+pub length-front : (R w : List ℕ) → length R ≤ length w → length (R ++ drop (length R) w) ≡ length w
+length-front R w h = omega (arith, length-append R (drop (length R) w), length-drop (length R) w)
+
+pub after-list : (R w : List ℕ) (i : ℕ) → length R ≤ i → word (R ++ drop (length R) w) i ≡ word w i
+after-list R w i ge =
+    let q : length R + (i - length R) ≡ i = omega arith in
+    ap (word (R ++ drop (length R) w)) (sym q) ∙ getD-append-add R (drop (length R) w) (i - length R) 0 ∙ getD-drop (length R) w (i - length R) 0 ∙ ap (word w) q
+
 -- the used words show the list R, and are cleared after it
 pub shows : (k : ℕ) (w w′ R : List ℕ) → k ≤ length w → length w′ ≡ length w → length R ≤ k → ((i : ℕ) → i < k → word w i ≡ 0) → ((i : ℕ) → k ≤ i → word w′ i ≡ word w i)
     → sets w′ 0 (R ++ replicate (k - length R) 0) ≡ R ++ drop (length R) w
 shows k w w′ R h e le z f =
-    ext-getD 0 (sets w′ 0 vs) (R ++ drop (length R) w) (length-sets w′ 0 vs ∙ e ∙ sym long) (λ i lt. go i (decLt i (length R)) (decLt i k) (omega (arith, lt, length-sets w′ 0 vs)))
+    ext-getD 0 (sets w′ 0 vs) (R ++ drop (length R) w) (length-sets w′ 0 vs ∙ e ∙ sym (length-front R w (omega arith))) (λ i lt. go i (decLt i (length R)) (decLt i k) (omega (arith, lt, length-sets w′ 0 vs)))
   where
     vs : List ℕ
     vs = R ++ replicate (k - length R) 0
 
     size : length vs ≡ k
     size = omega (arith, length-append R (replicate (k - length R) 0), length-replicate {A = ℕ} (k - length R) 0)
-
-    long : length (R ++ drop (length R) w) ≡ length w
-    long = omega (arith, length-append R (drop (length R) w), length-drop (length R) w)
-
-    tail : (i : ℕ) → length R ≤ i → word (R ++ drop (length R) w) i ≡ word w i
-    tail i ge =
-        let q : length R + (i - length R) ≡ i = omega arith in
-        ap (word (R ++ drop (length R) w)) (sym q) ∙ getD-append-add R (drop (length R) w) (i - length R) 0 ∙ getD-drop (length R) w (i - length R) 0 ∙ ap (word w) q
 
     at : (i : ℕ) → i < k → word (sets w′ 0 vs) i ≡ getD vs i 0
     at i lt = ap (word (sets w′ 0 vs)) (sym (zero-add i)) ∙ sets-in vs w′ 0 i (omega (arith, size)) (omega (arith, size))
@@ -83,8 +108,8 @@ shows k w w′ R h e le z f =
 
     go : (i : ℕ) → Dec (i < length R) → Dec (i < k) → i < length w′ → word (sets w′ 0 vs) i ≡ word (R ++ drop (length R) w) i
     go i (yes a) d lt = at i (omega arith) ∙ List·getD-append R (replicate (k - length R) 0) 0 i a ∙ sym (List·getD-append R (drop (length R) w) 0 i a)
-    go i (no a) (yes b) lt = at i b ∙ middle i (omega arith) b ∙ sym (z i b) ∙ sym (tail i (omega arith))
-    go i (no a) (no b) lt = sets-after vs w′ 0 i (omega (arith, size)) ∙ f i (omega arith) ∙ sym (tail i (omega arith))
+    go i (no a) (yes b) lt = at i b ∙ middle i (omega arith) b ∙ sym (z i b) ∙ sym (after-list R w i (omega arith))
+    go i (no a) (no b) lt = sets-after vs w′ 0 i (omega (arith, size)) ∙ f i (omega arith) ∙ sym (after-list R w i (omega arith))
 
 -- ---- the marks are the blocked slots
 

@@ -24,12 +24,13 @@ queueWords n = 2 * n + 1
 unfoldable pub seen : ℕ → List ℕ → ℕ → Bool
 seen n w t = ltb 0 (word w (n + t))
 
--- the queue lists the marked slots
+-- the queue lists the marked slots, and is 0 behind them
 pub record Queue (n : ℕ) (w : List ℕ) (tail : ℕ) : Type 0 where
   pub room : queueWords n ≤ length w
   pub few : tail ≤ countIf (seen n w) (slots n)
   pub listed : (i : ℕ) → i < tail → Mem (word w i) (slots n) × T (seen n w (word w i))
   pub found : (t : ℕ) → Mem t (slots n) → T (seen n w t) → (i : ℕ) × (i < tail) × (word w i ≡ t)
+  pub rest : (i : ℕ) → tail ≤ i → i ≤ n → word w i ≡ 0
 
 -- the slots of l are visited: those not marked are marked and enqueued
 pub record Visited (n : ℕ) (w : List ℕ) (tail : ℕ) (l : List ℕ) (w′ : List ℕ) (tail′ : ℕ) : Type 0 where

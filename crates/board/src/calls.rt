@@ -1,14 +1,11 @@
 // The four calls on a lent board, and the blocked slots after a 12.
 ghost use mathlib.Core.Path.{_≡_};
-ghost use mathlib.Core.List.{[]};
 ghost use Prim.Native.Nat.{_≤_};
 ghost use lib.Dec.{T};
 ghost use lib.ListN.{length, take};
 ghost use Rattle.matching.specs.Lists.{slots};
 ghost use Rattle.rules.specs.Calls.{
-  boardChecks,
   first,
-  shortFor,
   finished,
   step,
   released,
@@ -20,27 +17,28 @@ ghost use Rattle.rules.specs.Calls.{
 ghost use Rattle.rules.specs.Check.{passes};
 ghost use Rattle.rules.specs.Layout.{boardWords, mostChoices, row8};
 ghost use Rattle.board.specs.Carry.{InSlot, carried, Bringing, placed};
-ghost use Rattle.board.specs.Gates.{gateCode, laterChecks};
+ghost use Rattle.board.specs.Gates.{gateCode, laterChecks, Knows, Admitted};
 ghost use Rattle.board.specs.Said.{code, said, Opens};
 ghost use Rattle.orders.specs.Verdict.{faultNumber};
-use crate::checking::check;
 use crate::checking::is_held;
+use crate::gates::Gate;
+use crate::gates::Known;
+use crate::gates::Span;
+use crate::gates::assess;
+use crate::gates::short_for;
+use crate::gates::tidy;
 use crate::place::place;
 use crate::reach::forget;
 use crate::reach::reach;
 use crate::reach::show;
-use crate::words::HEAD_WORDS;
 use crate::words::HELD;
 use crate::words::Loose;
 use crate::words::MOST_SLOTS;
 use crate::words::SIZE;
-use crate::words::board_words;
-use crate::words::clear;
 use crate::words::number_at;
 use crate::words::put_free;
 use crate::words::put_label;
 use crate::words::put_opened;
-use crate::words::work_words;
 use orders::Fault;
 use orders::Verdict;
 use orders::judge;
@@ -64,48 +62,6 @@ pub enum Answer {
     Accepted(u64),
     Refused(Refusal),
     Blocked(u16),
-}
-
-// Whether the checks let a call pass.
-pub(crate) enum Gate {
-    Pass,
-    Stop(Refusal),
-}
-
-// Check 4.
-fn short_for(n: u16, board: &[u16]) -> bool
-    ensures { λ r. ⌜ r ≡ shortFor n (now (board .entry)) ⌝ }
-{
-    if board.len() < HEAD_WORDS {
-        return true;
-    }
-    if n == 0 {
-        return false;
-    }
-    if MOST_SLOTS < n {
-        return false;
-    }
-    board.len() < board_words(n)
-}
-
-// The checks 4 to 6.
-fn gate_board(board: &[u16], work: &[u16]) -> Gate
-    ensures { λ r. ⌜ gateCode r ≡ first (boardChecks (now (board .entry)) (now (work .entry)) []) ⌝ }
-{
-    if board.len() < HEAD_WORDS {
-        return Gate::Stop(Refusal::Short);
-    }
-    let n = board[SIZE];
-    if short_for(n, board) {
-        return Gate::Stop(Refusal::Short);
-    }
-    if !check(board) {
-        return Gate::Stop(Refusal::Unsound);
-    }
-    if work.len() < work_words(n) {
-        return Gate::Stop(Refusal::LittleWork);
-    }
-    Gate::Pass
 }
 
 pub fn open_board(board: &mut [u16], n: u16) -> Answer
@@ -176,8 +132,9 @@ pub(crate) fn bring_in(board: &mut [u16], work: &mut [u16], x: Loose) -> Answer
         ≡ finished (now (board .entry)) (now (work .entry)) (carried x) (placed (now (board .entry)) (carried x)) ⌝ }
 {
     let n = board[SIZE];
-    if reach(board, work, n, x) {
-        forget(work, n);
+    let r = reach(board, work, n, x);
+    if r.free {
+        forget(work, n, r.tail);
         let held = board[HELD];
         let moves = place(board, n, x);
         board[HELD] = held + 1;
@@ -188,18 +145,19 @@ pub(crate) fn bring_in(board: &mut [u16], work: &mut [u16], x: Loose) -> Answer
 }
 
 // What comes after the checks 4 to 6: 7 to 11, then the order itself.
-pub(crate) fn accept_open(
+fn accept_open(
     board: &mut [u16],
     work: &mut [u16],
     number: u16,
     count: u16,
     row: [u16; 8],
+    clean: Span,
 ) -> Answer
-    requires { ⌜ first (boardChecks (now board) (now work) []) ≡ 0 ⌝ }
+    requires { ⌜ Admitted (now board) (now work) clean ⌝ }
     ensures { λ r. ⌜ said r (now (board .exit)) (now (work .exit)) ≡ step (acceptCall number count row) (now (board .entry)) (now (work .entry)) ⌝ }
 {
     let n = board[SIZE];
-    clear(work, n);
+    tidy(work, n, clean);
     let g = gate_order(board, number, count, row);
     match g {
         Gate::Stop(r) => {
@@ -216,18 +174,35 @@ pub(crate) fn accept_open(
     }
 }
 
-pub fn accept(board: &mut [u16], work: &mut [u16], number: u16, count: u16, row: [u16; 8]) -> Answer
+// An order, with the checks 4 to 6 run before.
+pub(crate) fn accept_known(
+    board: &mut [u16],
+    work: &mut [u16],
+    number: u16,
+    count: u16,
+    row: [u16; 8],
+    known: Known,
+) -> Answer
+    requires { ⌜ Knows known (now board) (now work) ⌝ }
     ensures { λ r. ⌜ said r (now (board .exit)) (now (work .exit)) ≡ step (acceptCall number count row) (now (board .entry)) (now (work .entry)) ⌝ }
 {
-    let g = gate_board(board, work);
+    let g = known.gate;
+    let clean = known.clean;
     match g {
         Gate::Stop(r) => {
             return Answer::Refused(r);
         }
         Gate::Pass => {
-            return accept_open(board, work, number, count, row);
+            return accept_open(board, work, number, count, row, clean);
         }
     }
+}
+
+pub fn accept(board: &mut [u16], work: &mut [u16], number: u16, count: u16, row: [u16; 8]) -> Answer
+    ensures { λ r. ⌜ said r (now (board .exit)) (now (work .exit)) ≡ step (acceptCall number count row) (now (board .entry)) (now (work .entry)) ⌝ }
+{
+    let known = assess(board, work);
+    accept_known(board, work, number, count, row, known)
 }
 
 // Slot s after order k's withdrawal: free if it held k; else its label is 1 if it holds an order.
@@ -258,12 +233,12 @@ fn release_all(board: &mut [u16], n: u16, k: u16)
 }
 
 // What comes after the checks 4 to 6.
-pub(crate) fn withdraw_open(board: &mut [u16], work: &mut [u16], number: u16) -> Answer
-    requires { ⌜ first (boardChecks (now board) (now work) []) ≡ 0 ⌝ }
+fn withdraw_open(board: &mut [u16], work: &mut [u16], number: u16, clean: Span) -> Answer
+    requires { ⌜ Admitted (now board) (now work) clean ⌝ }
     ensures { λ r. ⌜ said r (now (board .exit)) (now (work .exit)) ≡ step (withdrawCall number) (now (board .entry)) (now (work .entry)) ⌝ }
 {
     let n = board[SIZE];
-    clear(work, n);
+    tidy(work, n, clean);
     if number == 0 {
         return Answer::Refused(Refusal::NumberZero);
     }
@@ -276,16 +251,50 @@ pub(crate) fn withdraw_open(board: &mut [u16], work: &mut [u16], number: u16) ->
     Answer::Accepted(0)
 }
 
-pub fn withdraw(board: &mut [u16], work: &mut [u16], number: u16) -> Answer
+// A withdrawal, with the checks 4 to 6 run before.
+pub(crate) fn withdraw_known(
+    board: &mut [u16],
+    work: &mut [u16],
+    number: u16,
+    known: Known,
+) -> Answer
+    requires { ⌜ Knows known (now board) (now work) ⌝ }
     ensures { λ r. ⌜ said r (now (board .exit)) (now (work .exit)) ≡ step (withdrawCall number) (now (board .entry)) (now (work .entry)) ⌝ }
 {
-    let g = gate_board(board, work);
+    let g = known.gate;
+    let clean = known.clean;
     match g {
         Gate::Stop(r) => {
             return Answer::Refused(r);
         }
         Gate::Pass => {
-            return withdraw_open(board, work, number);
+            return withdraw_open(board, work, number, clean);
+        }
+    }
+}
+
+pub fn withdraw(board: &mut [u16], work: &mut [u16], number: u16) -> Answer
+    ensures { λ r. ⌜ said r (now (board .exit)) (now (work .exit)) ≡ step (withdrawCall number) (now (board .entry)) (now (work .entry)) ⌝ }
+{
+    let known = assess(board, work);
+    withdraw_known(board, work, number, known)
+}
+
+// A print, with the checks 4 to 6 run before.
+pub(crate) fn print_known(board: &[u16], work: &mut [u16], known: Known) -> Answer
+    requires { ⌜ Knows known (now board) (now work) ⌝ }
+    ensures { λ r. ⌜ said r (now (board .entry)) (now (work .exit)) ≡ step printCall (now (board .entry)) (now (work .entry)) ⌝ }
+{
+    let g = known.gate;
+    let clean = known.clean;
+    match g {
+        Gate::Stop(r) => {
+            return Answer::Refused(r);
+        }
+        Gate::Pass => {
+            let size = board[SIZE];
+            tidy(work, size, clean);
+            return Answer::Accepted(size as u64);
         }
     }
 }
@@ -293,17 +302,8 @@ pub fn withdraw(board: &mut [u16], work: &mut [u16], number: u16) -> Answer
 pub fn print(board: &[u16], work: &mut [u16]) -> Answer
     ensures { λ r. ⌜ said r (now (board .entry)) (now (work .exit)) ≡ step printCall (now (board .entry)) (now (work .entry)) ⌝ }
 {
-    let g = gate_board(board, work);
-    match g {
-        Gate::Stop(r) => {
-            return Answer::Refused(r);
-        }
-        Gate::Pass => {
-            let size = board[SIZE];
-            clear(work, size);
-            return Answer::Accepted(size as u64);
-        }
-    }
+    let known = assess(board, work);
+    print_known(board, work, known)
 }
 
 // The first s of the work words: after a 12 that counts s, the blocked slots.

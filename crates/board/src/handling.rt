@@ -10,14 +10,19 @@ ghost use Rattle.rules.specs.Layout.{heldCount};
 ghost use Rattle.rules.specs.Lines.{letterA, letterW, letterP};
 ghost use Rattle.rules.specs.Runs.{up, counted as countedOf, answered, handleLine};
 ghost use Rattle.board.specs.Said.{code, refusalOf, countOf};
-ghost use Rattle.board.specs.Handling.{countsOf, stateOf, handledOf};
+ghost use Rattle.board.specs.Handling.{countsOf, replyOf, stateOf, handledOf};
+ghost use Rattle.board.specs.Gates.{Knows, Tells};
 ghost use Rattle.board.specs.Replying.{Replies, OpensLine, LeavesUnread};
 use crate::calls::Answer;
 use crate::calls::Refusal;
-use crate::calls::accept;
+use crate::calls::accept_known;
 use crate::calls::open_board;
-use crate::calls::print;
-use crate::calls::withdraw;
+use crate::calls::print_known;
+use crate::calls::withdraw_known;
+use crate::gates::Known;
+use crate::gates::assess;
+use crate::gates::known_opened;
+use crate::gates::known_swept;
 use crate::words::HEAD_WORDS;
 use crate::words::HELD;
 use reading::Kind;
@@ -165,23 +170,31 @@ fn accept_line(
     board: &mut [u16],
     work: &mut [u16],
     t: Tally,
+    known: Known,
 ) -> Handled
-    requires { ⌜ (1 ≤ count) × (count ≤ 10) ⌝ }
+    requires { ⌜ (1 ≤ count) × (count ≤ 10) × Knows known (now board) (now work) ⌝ }
     ensures { λ r. ⌜ handledOf r (now (board .exit)) (now (work .exit))
         ≡ answered letterA columns (stateOf (now (board .entry)) (now (work .entry)) t)
         (step (acceptCall (getD columns 0 0) (count - 1) (take 8 (drop 1 columns))) (now (board .entry)) (now (work .entry))) ⌝ }
 {
     let number = columns[0];
-    let a = accept(board, work, number, (count - 1) as u16, row_of(columns));
+    let a = accept_known(board, work, number, (count - 1) as u16, row_of(columns), known);
     replied(b'A', number, a, t)
 }
 
-fn withdraw_line(number: u16, board: &mut [u16], work: &mut [u16], t: Tally) -> Handled
+fn withdraw_line(
+    number: u16,
+    board: &mut [u16],
+    work: &mut [u16],
+    t: Tally,
+    known: Known,
+) -> Handled
+    requires { ⌜ Knows known (now board) (now work) ⌝ }
     ensures { λ r. ⌜ handledOf r (now (board .exit)) (now (work .exit))
         ≡ answered letterW (number ∷ []) (stateOf (now (board .entry)) (now (work .entry)) t)
         (step (withdrawCall number) (now (board .entry)) (now (work .entry))) ⌝ }
 {
-    let a = withdraw(board, work, number);
+    let a = withdraw_known(board, work, number, known);
     replied(b'W', number, a, t)
 }
 
@@ -198,18 +211,26 @@ fn held_shown(board: &[u16], a: Answer) -> u16
     board[HELD]
 }
 
-fn print_line(board: &[u16], work: &mut [u16], t: Tally) -> Handled
+fn print_line(board: &[u16], work: &mut [u16], t: Tally, known: Known) -> Handled
+    requires { ⌜ Knows known (now board) (now work) ⌝ }
     ensures { λ r. ⌜ handledOf r (now (board .entry)) (now (work .exit))
         ≡ answered letterP [] (stateOf (now (board .entry)) (now (work .entry)) t)
         (step printCall (now (board .entry)) (now (work .entry))) ⌝ }
 {
-    let a = print(board, work);
+    let a = print_known(board, work, known);
     let number = held_shown(board, a);
     replied(b'P', number, a, t)
 }
 
-// A line, without its line feed.
-pub fn handle(line: &[u8], board: &mut [u16], work: &mut [u16], tally: Tally) -> Handled
+// A line, without its line feed, with the checks 4 to 6 run before.
+pub(crate) fn handle_known(
+    line: &[u8],
+    board: &mut [u16],
+    work: &mut [u16],
+    tally: Tally,
+    known: Known,
+) -> Handled
+    requires { ⌜ Knows known (now board) (now work) ⌝ }
     ensures { λ r. ⌜ handledOf r (now (board .exit)) (now (work .exit))
         ≡ handleLine (now (line .entry)) (stateOf (now (board .entry)) (now (work .entry)) tally) ⌝ }
 {
@@ -222,13 +243,13 @@ pub fn handle(line: &[u8], board: &mut [u16], work: &mut [u16], tally: Tally) ->
             return open_line(columns[0], board, tally);
         }
         Kind::Accept => {
-            return accept_line(columns, count, board, work, tally);
+            return accept_line(columns, count, board, work, tally, known);
         }
         Kind::Withdraw => {
-            return withdraw_line(columns[0], board, work, tally);
+            return withdraw_line(columns[0], board, work, tally, known);
         }
         Kind::Print => {
-            return print_line(board, work, tally);
+            return print_line(board, work, tally, known);
         }
         Kind::Malformed => {
             return unread_line(1, tally);
@@ -237,6 +258,39 @@ pub fn handle(line: &[u8], board: &mut [u16], work: &mut [u16], tally: Tally) ->
             return unread_line(2, tally);
         }
     }
+}
+
+// What is known after a line, by its reply.
+pub(crate) fn learn(known: Known, reply: Reply, board: &[u16], work: &[u16]) -> Known
+    requires { ⌜ Tells known (replyOf reply) (now board) (now work) ⌝ }
+    ensures { λ r. ⌜ Knows r (now (board .entry)) (now (work .entry)) ⌝ }
+{
+    let letter = reply.letter;
+    let refusal = reply.refusal;
+    let count = reply.count;
+    if refusal == 12 {
+        return known_swept(board, work, count as usize);
+    }
+    if 6 < refusal {
+        return known_swept(board, work, 0);
+    }
+    if refusal != 0 {
+        return known;
+    }
+    if letter == b'S' {
+        let clean = known.clean;
+        return known_opened(board, work, clean);
+    }
+    known_swept(board, work, 0)
+}
+
+// A line, without its line feed.
+pub fn handle(line: &[u8], board: &mut [u16], work: &mut [u16], tally: Tally) -> Handled
+    ensures { λ r. ⌜ handledOf r (now (board .exit)) (now (work .exit))
+        ≡ handleLine (now (line .entry)) (stateOf (now (board .entry)) (now (work .entry)) tally) ⌝ }
+{
+    let known = assess(board, work);
+    handle_known(line, board, work, tally, known)
 }
 
 // The same with the day's tally lent: it is brought up to date.

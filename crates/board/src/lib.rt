@@ -1,6 +1,7 @@
 // The board: its check, the calls of document 01, and the handling of a line, on words that the caller lends.
 mod calls;
 mod checking;
+mod gates;
 mod handling;
 mod place;
 mod reach;

@@ -47,10 +47,16 @@ fn visit_row(work: &mut [u16], n: usize, tail: usize, count: usize, row: [u16; 8
     end
 }
 
-// Whether the order reaches a free slot, its own slots first; if not, what it reaches is marked.
-pub(crate) fn reach(board: &[u16], work: &mut [u16], n: u16, x: Loose) -> bool
+// Whether a free slot is reached, and how many slots are in the queue.
+pub(crate) struct Reached {
+    pub(crate) free: bool,
+    pub(crate) tail: usize,
+}
+
+// The order's own slots first; if it reaches no free slot, all that it reaches is marked.
+pub(crate) fn reach(board: &[u16], work: &mut [u16], n: u16, x: Loose) -> Reached
     requires { ⌜ Reaching n (now board) x (now work) ⌝ }
-    ensures { λ r. ⌜ ReachIs n (now (board .entry)) (carried x) (now (work .entry)) (now (work .exit)) r ⌝ }
+    ensures { λ r. ⌜ ReachIs n (now (board .entry)) (carried x) (now (work .entry)) (now (work .exit)) (r .free) × Queue n (now (work .exit)) (r .tail) ⌝ }
 {
     let size = n as usize;
     let own = x.count as usize;
@@ -61,22 +67,29 @@ pub(crate) fn reach(board: &[u16], work: &mut [u16], n: u16, x: Loose) -> bool
         let s = work[head];
         let y = loose_at(board, s);
         if y.number == 0 {
-            return true;
+            return Reached { free: true, tail };
         }
         let count = y.count as usize;
         let choices = y.row;
         tail = visit_row(work, size, tail, count, choices);
         head += 1;
     }
-    false
+    Reached { free: false, tail }
 }
 
-// The words that were used become 0 again.
-pub(crate) fn forget(work: &mut [u16], n: u16)
-    requires { ⌜ queueWords n ≤ length (now work) ⌝ }
+// The slots in the queue leave it and lose their marks: the words that were used become 0 again.
+pub(crate) fn forget(work: &mut [u16], n: u16, tail: usize)
+    requires { ⌜ Queue n (now work) tail ⌝ }
     ensures { λ _. ⌜ now (work .exit) ≡ sets (now (work .entry)) 0 (replicate (queueWords n) 0) ⌝ }
 {
-    zero_range(work, 0, queue_words(n));
+    let size = n as usize;
+    let mut i: usize = 0;
+    while i < tail {
+        let t = work[i] as usize;
+        work[size + t] = 0;
+        work[i] = 0;
+        i += 1;
+    }
 }
 
 // The marked slots, in rising order, from word 0 on, and 0 after them; how many they are.

@@ -10,12 +10,15 @@ ghost use Rattle.rules.specs.Runs.{framed, handle, spoilt};
 ghost use Rattle.writing.specs.Storing.{Stores};
 ghost use Rattle.board.specs.Answering.{Answers};
 ghost use Rattle.board.specs.Carry.{InSlot};
+ghost use Rattle.board.specs.Gates.{Knows};
 ghost use Rattle.board.specs.Handling.{replyOf, stateOf};
 ghost use Rattle.board.specs.Replying.{SlotsRoom, ReplyRoom};
 use crate::calls::blocked;
+use crate::gates::Known;
 use crate::handling::Reply;
 use crate::handling::Tally;
-use crate::handling::tallied;
+use crate::handling::handle_known;
+use crate::handling::learn;
 use crate::handling::unread_line;
 use crate::words::SIZE;
 use crate::words::label_at;
@@ -27,6 +30,12 @@ use writing::put_blocked;
 pub(crate) struct Placed {
     pub(crate) end: usize,
     pub(crate) tally: Tally,
+}
+
+// The same with what is known then.
+pub(crate) struct Turned {
+    pub(crate) placed: Placed,
+    pub(crate) known: Known,
 }
 
 fn wide(x: u16) -> u64
@@ -96,18 +105,21 @@ pub(crate) fn answer_line(
     board: &mut [u16],
     work: &mut [u16],
     t: Tally,
+    known: Known,
     out: &mut [u8],
     at: usize,
-) -> Placed
-    requires { ⌜ at + replyRoom ≤ length (now out) ⌝ }
+) -> Turned
+    requires { ⌜ (at + replyRoom ≤ length (now out)) × Knows known (now board) (now work) ⌝ }
     ensures { λ r. ⌜ Answers (handle (stateOf (now (board .entry)) (now (work .entry)) t) (framed (now (line .entry))))
-        (now (out .entry)) at r (now (board .exit)) (now (work .exit)) (now (out .exit)) ⌝ }
+        (now (out .entry)) at (r .placed) (now (board .exit)) (now (work .exit)) (now (out .exit)) × Knows (r .known) (now (board .exit)) (now (work .exit)) ⌝ }
 {
-    let h = tallied(line, board, work, t);
+    let h = handle_known(line, board, work, t, known);
     let reply = h.reply;
     let tally = h.tally;
+    let after = learn(known, reply, board, work);
     let end = put_reply(reply, board, work, out, at);
-    Placed { end, tally }
+    let placed = Placed { end, tally };
+    Turned { placed, known: after }
 }
 
 // A line that gets refusal 1 unread.

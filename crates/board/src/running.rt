@@ -5,6 +5,7 @@ ghost use lib.ListN.{length};
 ghost use Rattle.board.specs.Handling.{stateOf};
 ghost use Rattle.board.specs.LineEnds.{LineEnd};
 ghost use Rattle.board.specs.Running.{Leaves, Closes};
+use crate::gates::assess;
 use crate::handling::Tally;
 use crate::replies::answer_line;
 use crate::replies::answer_spoilt;
@@ -62,13 +63,16 @@ pub fn run_block(
     let mut at: usize = 0;
     let mut written: usize = 0;
     let mut t = tally;
+    let mut known = assess(board, work);
     let mut e = line_end(input, 0);
     while e < input.len() {
         if out.len() - written < REPLY_ROOM {
             return done(at, written, t);
         }
-        let p = answer_line(&input[at..e], board, work, t, out, written);
+        let turned = answer_line(&input[at..e], board, work, t, known, out, written);
+        let p = turned.placed;
         let u = p.tally;
+        known = turned.known;
         written = p.end;
         t = u;
         at = e + 1;

@@ -3,7 +3,7 @@ ghost use mathlib.Core.Path.{_≡_};
 ghost use Prim.Native.Nat.{_+_, _≤_};
 ghost use lib.ListN.{length, replicate, set};
 ghost use lib.Seq.{sets};
-ghost use Rattle.rules.specs.Calls.{cleared, opened};
+ghost use Rattle.rules.specs.Calls.{opened};
 ghost use Rattle.rules.specs.Check.{zeros};
 ghost use Rattle.rules.specs.Layout.{slotWords, boardWords, workWords, reads, base, numberAt, labelAt, freeSlot};
 ghost use Rattle.board.specs.Carry.{looseAt, putAt, InSlot};
@@ -185,12 +185,4 @@ pub(crate) fn put_opened(board: &mut [u16], n: u16)
 {
     board[SIZE] = n;
     zero_range(board, HELD, board_words(n) - HELD);
-}
-
-// The work words of a board of n slots become 0.
-pub(crate) fn clear(work: &mut [u16], n: u16)
-    requires { ⌜ workWords n ≤ length (now work) ⌝ }
-    ensures { λ _. ⌜ now (work .exit) ≡ cleared n (now (work .entry)) ⌝ }
-{
-    zero_range(work, 0, work_words(n));
 }

@@ -8,7 +8,7 @@ use native.Mathlib.Omega.{arith}
 use lib.Dec.{T, eqb, ltb, eqb→eq, T-not, eqb-refl}
 use lib.ListN.{length, take, drop, length-append, length-take}
 use Rattle.matching.specs.Lists.{filter, upward}
-use Rattle.matching.specs.Orders.{seats}
+use Rattle.matching.specs.Orders.{Order, Seat, seats}
 use Rattle.matching.specs.Placing.{Result, accepted, refused, unfinished, place}
 use Rattle.matching.specs.Blocking.{blocked, rounds}
 use Rattle.matching.proofs.Counting.{dec-T, and-l, and-r}
@@ -52,6 +52,11 @@ length-upward : (i k : ℕ) → length (upward i k) ≡ k
 length-upward i zero = refl
 length-upward i (suc k) = ap suc (length-upward (suc i) k)
 
+-- no more slots are blocked than there are
+pub few-named : (n : ℕ) (ss : List Seat) (x : Order) → length (blocked n ss x) ≤ n
+unfolding blocked
+few-named n ss x = omega (arith, length-filter (rounds ss x n) (upward 0 n), length-upward 0 n)
+
 second-clear : (a b : ℕ) (p q : Bool) (cs : List Check) → 1 ≤ a → 1 ≤ b → first ((a, p) ∷ (b, q) ∷ cs) ≡ 0 → T (not q)
 second-clear a b true q cs h k e = absurd (omega arith)
 second-clear a b false true cs h k e = absurd (omega arith)
@@ -70,18 +75,12 @@ pub record Modest (r : Answer) : Type 0 where
   pub passed : r .refusal ≡ 0 → Passed (r .board)
 
 few-blocked : (k c : ℕ) (row w work : List ℕ) → T (passes w) → (act (accept k c row) w work) .refusal ≡ 12 → (act (accept k c row) w work) .count ≤ 1024
-unfolding act finished refuse blocked
+unfolding act finished refuse
 few-blocked k c row w work t = go (place view (writeAt (size w)) (size w) w (order k c row))
   where
     go : (q : Result (List ℕ)) → (finished w work (order k c row) q) .refusal ≡ 12 → (finished w work (order k c row) q) .count ≤ 1024
     go (accepted w′ m) e = absurd (omega arith)
-    go refused e =
-        omega (
-          arith,
-          length-filter (rounds (seats (size w) (view w)) (order k c row) (size w)) (upward 0 (size w)),
-          length-upward 0 (size w),
-          (passed-of w t) .big,
-        )
+    go refused e = omega (arith, few-named (size w) (seats (size w) (view w)) (order k c row), (passed-of w t) .big)
     go unfinished e = omega arith
 
 modest-act : (q : Call) (w work : List ℕ) → first (checks q w work) ≡ 0 → Modest (act q w work)

@@ -16,12 +16,12 @@ use Rattle.board.proofs.calls.bring_in.Tie as tie
 found : (c : tie.Then1) → let a = c .before .before .before .before .before .before .before .before .before .args in ReachIs (word (a .board .now) 0) (a .board .now) (carried (a .x)) (a .work .now) (c .before .before .before .reach .last .1 .0) true
 found c =
     let a = c .before .before .before .before .before .before .before .before .before .args in
-    subst (λ (b : Bool). ReachIs (word (a .board .now) 0) (a .board .now) (carried (a .x)) (a .work .now) (c .before .before .before .reach .last .1 .0) b) (c .if1 .taken) (c .before .before .before .reach .ensures)
+    subst (λ (b : Bool). ReachIs (word (a .board .now) 0) (a .board .now) (carried (a .x)) (a .work .now) (c .before .before .before .reach .last .1 .0) b) (c .if1 .taken) (c .before .before .before .reach .ensures .0)
 
 closed : (c : tie.Else1) → let a = c .before .before .before .before .before .before .before .before .before .args in ReachIs (word (a .board .now) 0) (a .board .now) (carried (a .x)) (a .work .now) (c .before .before .before .reach .last .1 .0) false
 closed c =
     let a = c .before .before .before .before .before .before .before .before .before .args in
-    subst (λ (b : Bool). ReachIs (word (a .board .now) 0) (a .board .now) (carried (a .x)) (a .work .now) (c .before .before .before .reach .last .1 .0) b) (c .if1 .left) (c .before .before .before .reach .ensures)
+    subst (λ (b : Bool). ReachIs (word (a .board .now) 0) (a .board .now) (carried (a .x)) (a .work .now) (c .before .before .before .reach .last .1 .0) b) (c .if1 .left) (c .before .before .before .reach .ensures .0)
 
 slice-read-n : tie.Need-slice-read-n
 slice-read-n c = omega (arith, c .before .before .before .pre .passed .sound .fits)
@@ -30,7 +30,7 @@ reach-requires : tie.Need-reach-requires
 reach-requires c κs = reaching _ _ _ (c .before .before .before .before .before .pre)
 
 forget-requires : tie.Need-forget-requires
-forget-requires c κs = omega (arith, (found (c .before)) .same, c .before .before .before .before .before .before .before .before .before .before .pre .room)
+forget-requires c κs = c .before .before .before .before .reach .ensures .1
 
 slice-read-held : tie.Need-slice-read-held
 slice-read-held c =

@@ -20,7 +20,7 @@ use Rattle.board.proofs.calls.withdraw_open.Statement.{statement}
 use Rattle.board.proofs.calls.withdraw_open.Tie as tie
 
 good : (s : tie.Start) → Passed (s .args .board .now)
-good s = passed-of (s .args .board .now) ((gate-facts (s .args .board .now) (s .args .work .now) (s .pre)) .0)
+good s = passed-of (s .args .board .now) ((gate-facts (s .args .board .now) (s .args .work .now) (s .pre .pass)) .0)
 
 abbrev more : (s : tie.Start) → List (ℕ × Bool)
 more s = withdrawChecks (s .args .number) (s .args .board .now)
@@ -31,10 +31,10 @@ there c = sym (c .before .is-held .ensures) ∙ not-false _ (c .if2 .left)
 slice-read-n : tie.Need-slice-read-n
 slice-read-n c = omega (arith, (good (c .before .before .before)) .sound .fits)
 
-clear-requires : tie.Need-clear-requires
-clear-requires c κs =
+tidy-requires : tie.Need-tidy-requires
+tidy-requires c κs =
     let s = c .before .before .before .before in
-    (gate-facts (s .args .board .now) (s .args .work .now) (s .pre)) .1
+    ((gate-facts (s .args .board .now) (s .args .work .now) (s .pre .pass)) .1, s .pre .clean)
 
 same-length : tie.Need-same-length
 same-length c = search needs
@@ -44,7 +44,7 @@ returns c =
     let s = c .before .before .before .before .before .before .before .before in
     let a = s .args in
     let z : 7 ≡ first (more s) = rw (eq-eqb (a .number) 0 (c .if1 .taken)) in
-    stop-late (Calls.withdraw (a .number)) (a .board .now) (a .work .now) (more s) refl (s .pre) NumberZero z (omega arith) (c .before .before .before .clear .last .0) (c .before .before .before .clear .ensures)
+    stop-late (Calls.withdraw (a .number)) (a .board .now) (a .work .now) (more s) refl (s .pre .pass) NumberZero z (omega arith) (c .before .before .before .tidy .last .0) (c .before .before .before .tidy .ensures)
 
 is-held-requires : tie.Need-is-held-requires
 is-held-requires c κs = let p = good (c .before .before .before .before .before .before .before .before .before) in (p .big, p .sound .fits, omega (arith, c .before .if1 .left))
@@ -53,7 +53,7 @@ same-length-2 : tie.Need-same-length-2
 same-length-2 c = search needs
 
 same-length-3 : tie.Need-same-length-3
-same-length-3 c = c .before .before .before .before .before .before .clear .kept .0
+same-length-3 c = c .before .before .before .before .before .before .tidy .kept .0
 
 returns-2 : tie.Need-returns-2
 returns-2 c =
@@ -61,7 +61,7 @@ returns-2 c =
     let a = s .args in
     let q : isHeld (a .number) (a .board .now) ≡ false = sym (c .before .is-held .ensures) ∙ not-true _ (c .if2 .taken) in
     let z : 13 ≡ first (more s) = rw (ne-eqb (a .number) 0 (c .before .before .before .if1 .left), q) in
-    stop-late (Calls.withdraw (a .number)) (a .board .now) (a .work .now) (more s) refl (s .pre) NotHeld z (omega arith) (c .before .before .before .before .before .before .clear .last .0) (c .before .before .before .before .before .before .clear .ensures)
+    stop-late (Calls.withdraw (a .number)) (a .board .now) (a .work .now) (more s) refl (s .pre .pass) NotHeld z (omega arith) (c .before .before .before .before .before .before .tidy .last .0) (c .before .before .before .before .before .before .tidy .ensures)
 
 slice-read-held : tie.Need-slice-read-held
 slice-read-held c = let p = good (c .before .before .before .before .before .before .before .before .before .before .before .before) in omega (arith, p .sound .fits, p .size)
@@ -82,22 +82,22 @@ same-length-4 : tie.Need-same-length-4
 same-length-4 c = simp length-set (c .before .before .release-all .kept .0)
 
 same-length-5 : tie.Need-same-length-5
-same-length-5 c = c .before .before .before .before .before .before .before .before .before .before .before .clear .kept .0
+same-length-5 c = c .before .before .before .before .before .before .before .before .before .before .before .tidy .kept .0
 
 returns-3 : tie.Need-returns-3
 returns-3 c =
     let s = c .before .before .before .before .before .before .before .before .before .before .before .before .before .before .before .before in
     let a = s .args in
     let z : first (more s) ≡ 0 = rw (ne-eqb (a .number) 0 (c .before .before .before .before .before .before .before .before .if1 .left), there (c .before .before .before .before .before)) in
-    withdraw-is (a .board .now) (a .work .now) (c .before .before .before .before .before .before .before .before .before .before .before .clear .last .0) (c .before .before .release-all .last .0) (a .number)
-    (to-more (Calls.withdraw (a .number)) (a .board .now) (a .work .now) (more s) refl (s .pre) ∙ z) (c .before .before .release-all .ensures) (c .before .before .before .before .before .before .before .before .before .before .before .clear .ensures)
+    withdraw-is (a .board .now) (a .work .now) (c .before .before .before .before .before .before .before .before .before .before .before .tidy .last .0) (c .before .before .release-all .last .0) (a .number)
+    (to-more (Calls.withdraw (a .number)) (a .board .now) (a .work .now) (more s) refl (s .pre .pass) ∙ z) (c .before .before .release-all .ensures) (c .before .before .before .before .before .before .before .before .before .before .before .tidy .ensures)
 
 pub withdraw-open-spec : {M : Type 1} → statement M
 withdraw-open-spec =
     tie.close
     (tie.spec
     slice-read-n
-    clear-requires
+    tidy-requires
     same-length
     returns
     is-held-requires

@@ -10,17 +10,17 @@ use Rattle.board.proofs.handling.accept_line.Tie as tie
 array-read-number : tie.Need-array-read-number
 array-read-number c = search needs
 
-sub-accept : tie.Need-sub-accept
-sub-accept c = search needs
+sub-accept-known : tie.Need-sub-accept-known
+sub-accept-known c = search needs
 
-cast-accept : tie.Need-cast-accept
-cast-accept c = search needs
+cast-accept-known : tie.Need-cast-accept-known
+cast-accept-known c = search needs
 
 row-of-requires : tie.Need-row-of-requires
 row-of-requires c κs = search needs
 
-accept-requires : tie.Need-accept-requires
-accept-requires c κs = search needs
+accept-known-requires : tie.Need-accept-known-requires
+accept-known-requires c κs = search needs
 
 replied-requires : tie.Need-replied-requires
 replied-requires c κs = search needs
@@ -35,7 +35,7 @@ returns : tie.Need-returns
 returns c =
     let a = c .before .before .before .before .before .before .before .before .before .before .before .args in
     let row = c .before .before .before .before .before .before .row-of in
-    let call = c .before .before .before .before .before .accept in
+    let call = c .before .before .before .before .before .accept-known in
     answers 65 (a .t1) (accept (getD (a .t1) 0 0) (a .count - 1) (take 8 (drop 1 (a .t1)))) (call .result) (a .board .now) (a .work .now) _ _ (a .t) _ _
     (call .ensures ∙ ap (λ r. step (accept (getD (a .t1) 0 0) (a .count - 1) r) (a .board .now) (a .work .now)) (row .ensures)) refl (c .replied .ensures)
 
@@ -44,10 +44,10 @@ accept-line-spec =
     tie.close
     (tie.spec
     array-read-number
-    sub-accept
-    cast-accept
+    sub-accept-known
+    cast-accept-known
     row-of-requires
-    accept-requires
+    accept-known-requires
     replied-requires
     same-length
     same-length-2

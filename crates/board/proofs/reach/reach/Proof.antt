@@ -87,8 +87,8 @@ returns c =
     let a = s .args in
     let x = carried (a .x) in
     let g = going (c .before .before .before .before .before) in
-    hit (a .n) (a .board .now) x (s .pre .sound) (s .pre .fit .ready) (a .work .now) (l .work) (l .head) (l .tail) g (c .before .before .before .before .loop-test .taken)
-    (sym (ap (λ (y : Loose). y .number) (c .before .before .loose-at .ensures)) ∙ c .if1 .taken)
+    let e = sym (ap (λ (y : Loose). y .number) (c .before .before .loose-at .ensures)) ∙ c .if1 .taken in
+    (hit (a .n) (a .board .now) x (s .pre .sound) (s .pre .fit .ready) (a .work .now) (l .work) (l .head) (l .tail) g (c .before .before .before .before .loop-test .taken) e, g .queue)
 
 cast-count : tie.Need-cast-count Inv-loop μ-loop
 cast-count c = search needs
@@ -128,7 +128,7 @@ returns-2 c =
     let a = s .args in
     let x = carried (a .x) in
     let g = going (c .before) in
-    closed (a .n) (a .board .now) x (s .pre .sound) (s .pre .fit .ready) (a .work .now) (l .work) (l .head) (l .tail) g (c .loop-test .left)
+    (closed (a .n) (a .board .now) x (s .pre .sound) (s .pre .fit .ready) (a .work .now) (l .work) (l .head) (l .tail) g (c .loop-test .left), g .queue)
 
 pub reach-spec : {M : Type 1} → statement M
 reach-spec =

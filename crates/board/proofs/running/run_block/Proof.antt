@@ -1,26 +1,34 @@
--- `board::running::run_block` meets its contract. The invariant: what is left to do, the block of what is left of the input, joins to the whole.
-use Prim.Native.Nat.{_-_}
+-- `board::running::run_block` meets its contract. The invariant: what is left to do, the block of what is left of the input, joins to the whole; and what is known of board and work words is true.
+use Prim.Native.Nat.{_+_, _-_, _<_}
 use mathlib.Core.Path.{_≡_, _∙_}
 use native.Mathlib.Omega.{arith}
 use lib.ListN.{length}
 use borrow.Author.Needs.{needs}
+use Rattle.board.specs.Gates.{Knows}
 use Rattle.board.specs.Handling.{stateOf}
 use Rattle.board.proofs.BlockTurns.{Turning, start, turn, no-room-left, all-done, no-room-last, waits, refuses}
 use Rattle.board.proofs.running.run_block.Statement.{statement}
 use Rattle.board.proofs.running.run_block.Tie as tie
 
 abbrev Inv-loop : tie.InvT-loop
-Inv-loop input ended board₀ work₀ out₀ at₀ written₀ t₀ e₀ board work out at written t e =
-    Turning input ended (stateOf board₀ work₀ t₀) out₀ board work t out at e written × (length board ≡ length board₀) × (length work ≡ length work₀)
+Inv-loop input ended board₀ work₀ out₀ at₀ written₀ t₀ known₀ e₀ board work out at written t known e =
+    Turning input ended (stateOf board₀ work₀ t₀) out₀ board work t out at e written × (length board ≡ length board₀) × (length work ≡ length work₀) × Knows known board work
 
 abbrev μ-loop : tie.MeasureT-loop
-μ-loop input ended board₀ work₀ out₀ at₀ written₀ t₀ e₀ board work out at written t e = length input - at
+μ-loop input ended board₀ work₀ out₀ at₀ written₀ t₀ known₀ e₀ board work out at written t known e = length input - at
+
+-- a line's end and one more is a number that the machine has
+ends-low : (c : tie.In-loop Inv-loop μ-loop) → c .before .loop .e + 1 < 18446744073709551616
+ends-low c = search needs
+
+assess-requires : tie.Need-assess-requires Inv-loop μ-loop
+assess-requires c κs = search needs
 
 line-end-requires : tie.Need-line-end-requires Inv-loop μ-loop
 line-end-requires c κs = search needs
 
 loop-holds : tie.Need-loop-holds Inv-loop μ-loop
-loop-holds c = (start _ _ _ _ _ _ _ (c .line-end .ensures), search needs, search needs)
+loop-holds c = (start _ _ _ _ _ _ _ (c .line-end .ensures), search needs, search needs, c .before .assess .ensures)
 
 sub-if1 : tie.Need-sub-if1 Inv-loop μ-loop
 sub-if1 c = search needs
@@ -53,7 +61,7 @@ answer-line-requires : tie.Need-answer-line-requires Inv-loop μ-loop
 answer-line-requires c κs = search needs
 
 add-at : tie.Need-add-at Inv-loop μ-loop
-add-at c = search needs
+add-at c = record { fits = ends-low (c .before .before .before .before .before .before .before .before .before .before .before .before .before .before .before) }
 
 line-end-requires-2 : tie.Need-line-end-requires-2 Inv-loop μ-loop
 line-end-requires-2 c κs = search needs
@@ -63,11 +71,12 @@ loop-less c = search needs
 
 loop-again : tie.Need-loop-again Inv-loop μ-loop
 loop-again c =
-    let l = c .before .before .before .before .before .before .before .before .before .before .before .before .before .before .before .loop in
-    let call = c .before .before .before .before .before .before .before .before .answer-line in (
-      turn (l .inv .0) (c .before .before .before .before .before .before .before .before .before .before .before .before .before .before .loop-test .taken) (omega (arith, c .before .before .before .before .before .before .before .before .before .before .before .before .before .if1 .left)) (call .ensures) (c .line-end2 .ensures),
+    let l = c .before .before .before .before .before .before .before .before .before .before .before .before .before .before .before .before .before .loop in
+    let call = c .before .before .before .before .before .before .before .before .before .before .answer-line in (
+      turn (l .inv .0) (c .before .before .before .before .before .before .before .before .before .before .before .before .before .before .before .before .loop-test .taken) (omega (arith, c .before .before .before .before .before .before .before .before .before .before .before .before .before .before .before .if1 .left)) (call .ensures .0) (c .line-end2 .ensures),
       call .kept .1 .0 ∙ l .inv .1,
       call .kept .1 .1 .0 ∙ l .inv .2,
+      call .ensures .1,
     )
 
 sub-left : tie.Need-sub-left Inv-loop μ-loop
@@ -166,6 +175,7 @@ run-block-spec =
     (tie.spec
     Inv-loop
     μ-loop
+    assess-requires
     line-end-requires
     loop-holds
     sub-if1

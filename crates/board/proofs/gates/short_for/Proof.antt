@@ -1,8 +1,8 @@
 use native.Mathlib.Omega.{arith}
 use borrow.Author.Needs.{needs}
 use borrow.Author.Tests.{le-leb, lt-leb, lt-ltb, le-ltb}
-use Rattle.board.proofs.calls.short_for.Statement.{statement}
-use Rattle.board.proofs.calls.short_for.Tie as tie
+use Rattle.board.proofs.gates.short_for.Statement.{statement}
+use Rattle.board.proofs.gates.short_for.Tie as tie
 
 returns : tie.Need-returns
 returns c = simp (lt-ltb _ _ (c .if1 .taken))

@@ -3,8 +3,8 @@ use native.Mathlib.Omega.{arith}
 use borrow.Author.Needs.{needs}
 use Rattle.reading.specs.declared.Kind.the-variants.{Accept, Malformed, TooLarge}
 use Rattle.board.proofs.LineKinds.{some-columns, unread-is, open-is, accept-is, withdraw-is, print-is}
-use Rattle.board.proofs.handling.handle.Statement.{statement}
-use Rattle.board.proofs.handling.handle.Tie as tie
+use Rattle.board.proofs.handling.handle_known.Statement.{statement}
+use Rattle.board.proofs.handling.handle_known.Tie as tie
 
 read-line-requires : tie.Need-read-line-requires
 read-line-requires c κs = search needs
@@ -34,7 +34,8 @@ accept-line-requires : tie.Need-accept-line-requires
 accept-line-requires c κs =
     let a = c .before .before .before .before .before .before .before .before .before .args in
     let r = c .before .before .before .before .before .read-line in
-    some-columns (a .line .now) (r .result) (r .ensures) Accept (c .before .before .enum-told2 .given .1) refl refl
+    let some = some-columns (a .line .now) (r .result) (r .ensures) Accept (c .before .before .enum-told2 .given .1) refl refl in
+    (some .0, some .1, c .before .before .before .before .before .before .before .before .before .pre)
 
 same-length-2 : tie.Need-same-length-2
 same-length-2 c = search needs
@@ -111,8 +112,8 @@ returns-6 c =
     let r = c .before .before .before .before .read-line in
     unread-is (a .line .now) (r .result) (r .ensures) TooLarge (c .before .enum-told6 .given .1) _ (a .tally) (λ z. omega arith) (c .unread-line2 .ensures) (a .board .now) (a .work .now)
 
-pub handle-spec : {M : Type 1} → statement M
-handle-spec =
+pub handle-known-spec : {M : Type 1} → statement M
+handle-known-spec =
     tie.close
     (tie.spec
     read-line-requires

@@ -8,8 +8,8 @@ use borrow.Author.Tests.{lt-ltb, le-ltb, not-true, not-false}
 use Rattle.rules.specs.Calls.{shortFor}
 use Rattle.rules.specs.Check.{passes}
 use Rattle.rules.specs.Layout.{workWords, word}
-use Rattle.board.proofs.calls.gate_board.Statement.{statement}
-use Rattle.board.proofs.calls.gate_board.Tie as tie
+use Rattle.board.proofs.gates.gate_board.Statement.{statement}
+use Rattle.board.proofs.gates.gate_board.Tie as tie
 
 long : (c : tie.Else2) → let a = c .before .before .before .before .before .before .args in shortFor (word (a .board .now) 0) (a .board .now) ≡ false
 long c = sym (c .before .short-for .ensures) ∙ c .if2 .left
