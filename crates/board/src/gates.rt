@@ -49,6 +49,18 @@ pub(crate) fn short_for(n: u16, board: &[u16]) -> bool
     board.len() < board_words(n)
 }
 
+// Check 6, of a board that passes the check.
+fn gate_work(board: &[u16], work: &[u16]) -> Gate
+    requires { ⌜ Passed (now board) ⌝ }
+    ensures { λ r. ⌜ gateCode r ≡ first (boardChecks (now (board .entry)) (now (work .entry)) []) ⌝ }
+{
+    let n = board[SIZE];
+    if work.len() < work_words(n) {
+        return Gate::Stop(Refusal::LittleWork);
+    }
+    Gate::Pass
+}
+
 // The checks 4 to 6.
 fn gate_board(board: &[u16], work: &[u16]) -> Gate
     ensures { λ r. ⌜ gateCode r ≡ first (boardChecks (now (board .entry)) (now (work .entry)) []) ⌝ }
@@ -63,10 +75,7 @@ fn gate_board(board: &[u16], work: &[u16]) -> Gate
     if !check(board) {
         return Gate::Stop(Refusal::Unsound);
     }
-    if work.len() < work_words(n) {
-        return Gate::Stop(Refusal::LittleWork);
-    }
-    Gate::Pass
+    gate_work(board, work)
 }
 
 // Nothing is taken on trust: the board is checked, and no work word is held to be 0.
@@ -98,18 +107,6 @@ pub(crate) fn tidy(work: &mut [u16], n: u16, clean: Span)
 {
     let k = unclean(work_words(n), clean);
     zero_range(work, 0, k);
-}
-
-// Check 6, of a board that passes the check.
-fn gate_work(board: &[u16], work: &[u16]) -> Gate
-    requires { ⌜ Passed (now board) ⌝ }
-    ensures { λ r. ⌜ gateCode r ≡ first (boardChecks (now (board .entry)) (now (work .entry)) []) ⌝ }
-{
-    let n = board[SIZE];
-    if work.len() < work_words(n) {
-        return Gate::Stop(Refusal::LittleWork);
-    }
-    Gate::Pass
 }
 
 // After an opening: its board passes the check, and the work words are as they were.

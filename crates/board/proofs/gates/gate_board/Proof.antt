@@ -1,13 +1,12 @@
-use mathlib.Core.Bool.{true, false}
-use mathlib.Core.Path.{_≡_, sym, _∙_}
-use native.Mathlib.Omega.{arith}
-use lib.Dec.{ltb}
-use lib.ListN.{length}
+use mathlib.Core.Bool.{Bool, true, false}
+use mathlib.Core.Path.{_≡_, sym, _∙_, subst}
+use lib.Dec.{T}
 use borrow.Author.Needs.{needs}
-use borrow.Author.Tests.{lt-ltb, le-ltb, not-true, not-false}
+use borrow.Author.Tests.{lt-ltb, not-true, not-false}
 use Rattle.rules.specs.Calls.{shortFor}
 use Rattle.rules.specs.Check.{passes}
-use Rattle.rules.specs.Layout.{workWords, word}
+use Rattle.rules.specs.Layout.{word}
+use Rattle.rules.proofs.CheckLaws.{passed-of}
 use Rattle.board.proofs.gates.gate_board.Statement.{statement}
 use Rattle.board.proofs.gates.gate_board.Tie as tie
 
@@ -37,20 +36,11 @@ check-requires c κs = search needs
 returns-3 : tie.Need-returns-3
 returns-3 c = let z : passes (c .before .before .before .before .before .before .before .before .args .board .now) ≡ false = sym (c .before .check .ensures) ∙ not-true _ (c .if3 .taken) in simp (long (c .before .before), z)
 
-work-words-requires : tie.Need-work-words-requires
-work-words-requires c κs = search needs
+gate-work-requires : tie.Need-gate-work-requires
+gate-work-requires c κs = passed-of _ (subst (λ (b : Bool). T b) (sym (sound c)) tt)
 
 returns-4 : tie.Need-returns-4
-returns-4 c =
-    let a = c .before .before .before .before .before .before .before .before .before .before .args in
-    let z : ltb (length (a .work .now)) (workWords (word (a .board .now) 0)) ≡ true = lt-ltb (length (a .work .now)) (workWords (word (a .board .now) 0)) (omega (arith, c .if4 .taken, c .before .work-words .ensures)) in
-    simp (long (c .before .before .before .before), sound (c .before .before), z)
-
-returns-5 : tie.Need-returns-5
-returns-5 c =
-    let a = c .before .before .before .before .before .before .before .before .before .before .args in
-    let z : ltb (length (a .work .now)) (workWords (word (a .board .now) 0)) ≡ false = le-ltb (length (a .work .now)) (workWords (word (a .board .now) 0)) (omega (arith, c .if4 .left, c .before .work-words .ensures)) in
-    simp (long (c .before .before .before .before), sound (c .before .before), z)
+returns-4 c = search needs
 
 pub gate-board-spec : {M : Type 1} → statement M
 gate-board-spec =
@@ -62,6 +52,5 @@ gate-board-spec =
     returns-2
     check-requires
     returns-3
-    work-words-requires
-    returns-4
-    returns-5)
+    gate-work-requires
+    returns-4)
