@@ -112,13 +112,16 @@ def mixed(r, count, n):
             yield bytes(b for b in r.randbytes(r.randint(0, 200)) if b != 10) + b"\n"
 
 
+def write(name, count, n, path):
+    r = random.Random("%s %d %d" % (name, count, n))
+    with open(path, "wb") as out:
+        for l in globals()[name](r, count, n):
+            out.write(l)
+
+
 def main():
     name, count = sys.argv[1], int(sys.argv[2])
-    n = int(sys.argv[3]) if len(sys.argv) > 3 else 1024
-    r = random.Random("%s %d %d" % (name, count, n))
-    out = sys.stdout.buffer
-    for l in globals()[name](r, count, n):
-        out.write(l)
+    write(name, count, int(sys.argv[3]) if len(sys.argv) > 3 else 1024, "/dev/stdout")
 
 
 if __name__ == "__main__":

@@ -1,4 +1,5 @@
-/* The same job in plain C, unverified: no check of the board, a table from number to slot, buffered input and output. */
+/* The same job in plain C, unverified: no check of the board, a table from number to slot, buffered input and output.
+   With -DSCAN it has no table and looks through the slots for a number, as the proved program does. */
 #include <stdint.h>
 #include <stdio.h>
 #include <string.h>
@@ -11,11 +12,40 @@ struct slot {
 };
 
 static struct slot board[MOST + 1];
-static uint16_t where[65536]; /* number -> slot */
 static unsigned n, held;
 static uint32_t lines, accepted, refused;
 static unsigned char in[IN], out[OUT];
 static size_t filled;
+
+#ifdef SCAN
+static unsigned where(unsigned number)
+{
+    unsigned s;
+    for (s = 1; s <= n; s++) {
+        if (board[s].number == number)
+            return s;
+    }
+    return 0;
+}
+
+static void set_where(unsigned number, unsigned s)
+{
+    (void)number;
+    (void)s;
+}
+#else
+static uint16_t slot_of[65536];
+
+static unsigned where(unsigned number)
+{
+    return slot_of[number];
+}
+
+static void set_where(unsigned number, unsigned s)
+{
+    slot_of[number] = (uint16_t)s;
+}
+#endif
 
 static void flush(void)
 {
@@ -139,7 +169,7 @@ static uint64_t place(struct slot x)
         y = board[best];
         x.label = (uint16_t)(other < n ? other + 1 : n);
         board[best] = x;
-        where[x.number] = (uint16_t)best;
+        set_where(x.number, best);
         moves++;
         if (y.number == 0)
             return moves;
@@ -176,7 +206,7 @@ static void accept(const unsigned *v, unsigned columns)
             return;
         }
     }
-    if (where[number]) {
+    if (where(number)) {
         answer('A', number, 11, 0);
         return;
     }
@@ -204,12 +234,13 @@ static void withdraw(unsigned number)
         answer('W', number, 7, 0);
         return;
     }
-    if (!where[number]) {
+    s = where(number);
+    if (!s) {
         answer('W', number, 13, 0);
         return;
     }
-    memset(&board[where[number]], 0, sizeof board[0]);
-    where[number] = 0;
+    memset(&board[s], 0, sizeof board[0]);
+    set_where(number, 0);
     held--;
     for (s = 1; s <= n; s++) {
         if (board[s].number)
@@ -243,7 +274,7 @@ static void open_board(unsigned m)
         return;
     }
     for (s = 1; s <= n; s++)
-        where[board[s].number] = 0;
+        set_where(board[s].number, 0);
     n = m;
     held = 0;
     memset(board, 0, sizeof board);

@@ -178,7 +178,14 @@ fn accept_line(
         (step (acceptCall (getD columns 0 0) (count - 1) (take 8 (drop 1 columns))) (now (board .entry)) (now (work .entry))) ⌝ }
 {
     let number = columns[0];
-    let a = accept_known(board, work, number, (count - 1) as u16, row_of(columns), known);
+    let a = accept_known(
+        board,
+        work,
+        number,
+        (count - 1) as u16,
+        row_of(columns),
+        known,
+    );
     replied(b'A', number, a, t)
 }
 

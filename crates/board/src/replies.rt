@@ -119,7 +119,10 @@ pub(crate) fn answer_line(
     let after = learn(known, reply, board, work);
     let end = put_reply(reply, board, work, out, at);
     let placed = Placed { end, tally };
-    Turned { placed, known: after }
+    Turned {
+        placed,
+        known: after,
+    }
 }
 
 // A line that gets refusal 1 unread.

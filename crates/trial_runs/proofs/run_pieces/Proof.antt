@@ -1,5 +1,5 @@
 -- `trial_runs::run_pieces` is safe and ends. The invariant: the piece lies in the input. At each turn bytes are used, or more are shown.
-use Prim.Native.Nat.{_+_, _-_, _≤_}
+use Prim.Native.Nat.{_+_, _-_, _≤_, _<_}
 use mathlib.Core.Path.{_≡_}
 use lib.ListN.{length}
 use borrow.Author.Needs.{needs}
@@ -7,32 +7,35 @@ use Rattle.trial_runs.proofs.run_pieces.Statement.{statement}
 use Rattle.trial_runs.proofs.run_pieces.Tie as tie
 
 abbrev Inv-loop : tie.InvT-loop
-Inv-loop input board₀ work₀ out₀ t₀ at₀ end₀ board work out t at end =
-    (at ≤ end) × (end ≤ length input) × (length board ≡ length board₀) × (length work ≡ length work₀) × (length out ≡ length out₀)
+Inv-loop input piece shown board₀ work₀ out₀ alone₀ alone-work₀ t₀ v₀ same₀ at₀ end₀ board work out alone alone-work t v same at end =
+    (0 < piece) × (at ≤ end) × (end ≤ length input) × (length board ≡ length board₀) × (length work ≡ length work₀) × (length out ≡ length out₀)
+    × (length alone ≡ length alone₀) × (length alone-work ≡ length alone-work₀)
 
 abbrev μ-loop : tie.MeasureT-loop
-μ-loop input board₀ work₀ out₀ t₀ at₀ end₀ board work out t at end = (length input - at) + (length input - end)
+μ-loop input piece shown board₀ work₀ out₀ alone₀ alone-work₀ t₀ v₀ same₀ at₀ end₀ board work out alone alone-work t v same at end =
+    (length input - at) + (length input - end)
+
+-- what is used so far is a number that the machine has
+used-low : (c : tie.After-turn-both Inv-loop μ-loop) → c .before .before .before .before .before .before .before .loop .at + c .turn-both .result .used < 18446744073709551616
+used-low c = search needs
 
 loop-holds : tie.Need-loop-holds Inv-loop μ-loop
 loop-holds c = search needs
 
-sub-run-block : tie.Need-sub-run-block Inv-loop μ-loop
-sub-run-block c = search needs
+sub-turn-both : tie.Need-sub-turn-both Inv-loop μ-loop
+sub-turn-both c = search needs
 
-part-run-block-start : tie.Need-part-run-block-start Inv-loop μ-loop
-part-run-block-start c = search needs
+part-turn-both-start : tie.Need-part-turn-both-start Inv-loop μ-loop
+part-turn-both-start c = search needs
 
-part-run-block-end : tie.Need-part-run-block-end Inv-loop μ-loop
-part-run-block-end c = search needs
+part-turn-both-end : tie.Need-part-turn-both-end Inv-loop μ-loop
+part-turn-both-end c = search needs
 
-run-block-requires : tie.Need-run-block-requires Inv-loop μ-loop
-run-block-requires c κs = search needs
-
-drain-requires : tie.Need-drain-requires Inv-loop μ-loop
-drain-requires c κs = search needs
+turn-both-requires : tie.Need-turn-both-requires Inv-loop μ-loop
+turn-both-requires c κs = search needs
 
 add-at : tie.Need-add-at Inv-loop μ-loop
-add-at c = search needs
+add-at c = record { fits = used-low (c .before .before .before .before .before .before .before .before .before .before .before .before .before .before) }
 
 same-length : tie.Need-same-length Inv-loop μ-loop
 same-length c = search needs
@@ -42,6 +45,12 @@ same-length-2 c = search needs
 
 same-length-3 : tie.Need-same-length-3 Inv-loop μ-loop
 same-length-3 c = search needs
+
+same-length-4 : tie.Need-same-length-4 Inv-loop μ-loop
+same-length-4 c = search needs
+
+same-length-5 : tie.Need-same-length-5 Inv-loop μ-loop
+same-length-5 c = search needs
 
 returns : tie.Need-returns Inv-loop μ-loop
 returns c = search needs
@@ -68,15 +77,16 @@ run-pieces-spec =
     Inv-loop
     μ-loop
     loop-holds
-    sub-run-block
-    part-run-block-start
-    part-run-block-end
-    run-block-requires
-    drain-requires
+    sub-turn-both
+    part-turn-both-start
+    part-turn-both-end
+    turn-both-requires
     add-at
     same-length
     same-length-2
     same-length-3
+    same-length-4
+    same-length-5
     returns
     grown-requires
     loop-less

@@ -9,22 +9,16 @@ use Rattle.trial_runs.proofs.serve.Tie as tie
 read-in-requires : tie.Need-read-in-requires
 read-in-requires c κs = search needs
 
-slice-reshare-prefix-run-pieces : tie.Need-slice-reshare-prefix-run-pieces
-slice-reshare-prefix-run-pieces c = search needs
+slice-reshare-prefix-run-both : tie.Need-slice-reshare-prefix-run-both
+slice-reshare-prefix-run-both c = search needs
 
-slice-aggregate-run-pieces : tie.Need-slice-aggregate-run-pieces
-slice-aggregate-run-pieces c =
+slice-aggregate-run-both : tie.Need-slice-aggregate-run-both
+slice-aggregate-run-both c =
     let f = c .before .before .before .read-in in
     sym (length-take-le _ _ (omega (arith, f .ensures, f .kept .0)))
 
-run-pieces-requires : tie.Need-run-pieces-requires
-run-pieces-requires c κs = search needs
-
-close-requires : tie.Need-close-requires
-close-requires c κs = search needs
-
-drain-requires : tie.Need-drain-requires
-drain-requires c κs = search needs
+run-both-requires : tie.Need-run-both-requires
+run-both-requires c κs = search needs
 
 same-length : tie.Need-same-length
 same-length c = search needs
@@ -38,6 +32,12 @@ same-length-3 c = search needs
 same-length-4 : tie.Need-same-length-4
 same-length-4 c = search needs
 
+same-length-5 : tie.Need-same-length-5
+same-length-5 c = search needs
+
+same-length-6 : tie.Need-same-length-6
+same-length-6 c = search needs
+
 returns : tie.Need-returns
 returns c = search needs
 
@@ -46,13 +46,13 @@ serve-spec =
     tie.close
     (tie.spec
     read-in-requires
-    slice-reshare-prefix-run-pieces
-    slice-aggregate-run-pieces
-    run-pieces-requires
-    close-requires
-    drain-requires
+    slice-reshare-prefix-run-both
+    slice-aggregate-run-both
+    run-both-requires
     same-length
     same-length-2
     same-length-3
     same-length-4
+    same-length-5
+    same-length-6
     returns)
