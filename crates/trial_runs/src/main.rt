@@ -8,6 +8,7 @@ use board::run_block;
 use board::tallied;
 use libc::STDIN_FILENO;
 use libc::STDOUT_FILENO;
+use trial_words::fill_marks;
 use trial_words::same_words;
 use trial_words::say;
 use trial_words::zero_words;
@@ -225,6 +226,30 @@ fn tell(same: bool) {
     }
 }
 
+// No board yet, and work words that a call must clear.
+fn begin(board: &mut [u16], work: &mut [u16]) {
+    let n = board.len();
+    zero_words(board, 0, n);
+    fill_marks(work);
+}
+
+fn run_fresh(
+    input: &[u8],
+    piece: usize,
+    shown: bool,
+    board: &mut [u16],
+    work: &mut [u16],
+    out: &mut [u8],
+    alone: &mut [u16],
+    alone_work: &mut [u16],
+) -> Ran
+    requires { ⌜ 0 < piece ⌝ }
+{
+    begin(board, work);
+    begin(alone, alone_work);
+    run_pieces(input, piece, shown, board, work, out, alone, alone_work)
+}
+
 // Small pieces, whose answers are written out.
 fn run_small(
     input: &[u8],
@@ -234,19 +259,14 @@ fn run_small(
     alone: &mut [u16],
     alone_work: &mut [u16],
 ) {
-    let r = run_pieces(input, SMALL, true, board, work, out, alone, alone_work);
+    let r = run_fresh(input, SMALL, true, board, work, out, alone, alone_work);
     let t = r.tally;
     let w = close(t, out);
     drain(out, w);
     tell(r.same);
 }
 
-fn zero_all(a: &mut [u16]) {
-    let n = a.len();
-    zero_words(a, 0, n);
-}
-
-// Large ones, from the start again.
+// Large pieces.
 fn run_large(
     input: &[u8],
     board: &mut [u16],
@@ -255,11 +275,7 @@ fn run_large(
     alone: &mut [u16],
     alone_work: &mut [u16],
 ) {
-    zero_all(board);
-    zero_all(work);
-    zero_all(alone);
-    zero_all(alone_work);
-    let r = run_pieces(input, LARGE, false, board, work, out, alone, alone_work);
+    let r = run_fresh(input, LARGE, false, board, work, out, alone, alone_work);
     tell(r.same);
 }
 
