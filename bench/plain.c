@@ -61,22 +61,23 @@ static void flush(void)
 
 static void row(char letter, const uint64_t *v, unsigned k)
 {
-    unsigned i, j;
+    unsigned char *p;
+    unsigned i;
     if (OUT - filled < 2 + 10 * k)
         flush();
-    out[filled++] = (unsigned char)letter;
+    p = out + filled;
+    *p++ = (unsigned char)letter;
+    memset(p, ' ', 10 * k);
     for (i = 0; i < k; i++) {
-        unsigned char *p = out + filled + 10;
+        unsigned char *q = p += 10;
         uint64_t x = v[i];
-        *--p = (unsigned char)('0' + x % 10);
-        x /= 10;
-        for (j = 1; j < 10; j++) {
-            *--p = x ? (unsigned char)('0' + x % 10) : ' ';
+        do {
+            *--q = (unsigned char)('0' + x % 10);
             x /= 10;
-        }
-        filled += 10;
+        } while (x);
     }
-    out[filled++] = '\n';
+    *p++ = '\n';
+    filled += 2 + 10 * k;
 }
 
 static void count_line(int ok)

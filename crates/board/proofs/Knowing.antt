@@ -1,18 +1,17 @@
 -- What is known of board and work words stays true from line to line: what the reply to a line tells of them.
-use mathlib.Core.Bool.{Bool, true, false, not, _&&_, cond}
-use mathlib.Core.List.{List, [], _∷_}
+use mathlib.Core.Bool.{Bool, true, false, not, cond}
+use mathlib.Core.List.{List, []}
 use mathlib.Core.Logic.{_⊎_, inl, inr, _≢_}
-use mathlib.Core.Path.{_≡_, refl, sym, ap, _∙_, subst}
-use Prim.Native.Nat.{ℕ, suc, _-_, _≤_, _<_}
+use mathlib.Core.Path.{_≡_, refl, sym, _∙_, subst}
+use Prim.Native.Nat.{ℕ, suc, _-_, _≤_}
 use native.Mathlib.Omega.{arith}
-use lib.Dec.{T, eqb, leb, ltb, eqb→eq, T-not, eqb-refl}
+use lib.Dec.{T, eqb, ltb, eqb→eq}
 use lib.ListN.{length, getD, drop, set}
 use borrow.Author.Tests.{le-leb, lt-leb, eq-eqb}
 use Rattle.matching.specs.Blocking.{blocked}
 use Rattle.matching.specs.Lists.{any}
 use Rattle.matching.specs.Orders.{Order, seats}
 use Rattle.matching.specs.Placing.{Result, accepted, refused, unfinished, place}
-use Rattle.matching.proofs.Counting.{dec-T}
 use Rattle.rules.specs.Answers as A
 use Rattle.rules.specs.Calls as Calls
 use Rattle.rules.specs.Calls.{Call, Check, Answer, order, open-board, accept, withdraw, print, first, checks, boardChecks, openChecks, shortFor, cleared, shown, refuse, finished, act, step}
@@ -26,7 +25,7 @@ use Rattle.rules.proofs.CheckLaws.{Passed, passed-of}
 use Rattle.rules.proofs.Checks.{ready, fresh}
 use Rattle.rules.proofs.Replies.{inv-start, few-named, by-reading}
 use Rattle.rules.proofs.Steps.{Answered, does, refuses, answered, acts, acts-open}
-use Rattle.board.specs.Gates.{laterChecks, withdrawChecks, Zeros, Knows, Swept, Tells}
+use Rattle.board.specs.Gates.{laterChecks, withdrawChecks, Knows, Swept, Tells}
 use Rattle.board.specs.Handling.{replyOf, stateOf, handledOf}
 use Rattle.board.specs.declared.gates.Known.{Known}
 use Rattle.board.specs.declared.handling.Handled.{Handled}
@@ -35,7 +34,7 @@ use Rattle.board.proofs.Answers.{gate-facts}
 use Rattle.board.proofs.WorkWords.{cleared-zero, length-cleared, length-front, after-list}
 
 -- What an answer r leaves of the board w and the work words: of the calls that read the board.
-record Leaves (w work : List ℕ) (r : Answer) : Type 0 where
+record After (w work : List ℕ) (r : Answer) : Type 0 where
   same : 1 ≤ r .refusal → r .refusal ≤ 6 → (r .board ≡ w) × (r .work ≡ work)
   accepted : r .refusal ≡ 0 → Swept 0 (r .board) (r .work)
   blocked : r .refusal ≡ 12 → Swept (r .count) (r .board) (r .work)
@@ -91,7 +90,7 @@ module _ (w work : List ℕ) where
           zeros = λ i low high. after-list R (cleared n work) i low ∙ cleared-zero n work room i (omega arith) high;
         }
 
-    finishes : (x : Order) (q : Result (List ℕ)) → ((w′ : List ℕ) (m : ℕ) → q ≡ accepted w′ m → Passed (set w′ 1 (suc (word w 1))) × (size (set w′ 1 (suc (word w 1))) ≡ n)) → Leaves w work (finished w work x q)
+    finishes : (x : Order) (q : Result (List ℕ)) → ((w′ : List ℕ) (m : ℕ) → q ≡ accepted w′ m → Passed (set w′ 1 (suc (word w 1))) × (size (set w′ 1 (suc (word w 1))) ≡ n)) → After w work (finished w work x q)
     unfolding finished refuse
     finishes x (accepted w′ m) f = record {
       same = λ a b. absurd (omega arith);
@@ -117,7 +116,7 @@ module _ (w work : List ℕ) where
     through : (7 ≤ first (checks q w work)) ⊎ (first (checks q w work) ≡ 0) → first (boardChecks w work []) ≡ 0
     through h = late (shortFor n w) (not (passes w)) (ltb (length work) (workWords n)) (first more) (subst (λ (k : ℕ). (7 ≤ k) ⊎ (k ≡ 0)) is h)
 
-    turned-down : first (checks q w work) ≢ 0 → Leaves w work (refuse (first (checks q w work)) w work)
+    turned-down : first (checks q w work) ≢ 0 → After w work (refuse (first (checks q w work)) w work)
     unfolding refuse
     turned-down ne = let k = first (checks q w work) in record {
       same = λ low high. (refl, rw (le-leb k 6 high));
@@ -126,21 +125,21 @@ module _ (w work : List ℕ) where
       refused = λ h e. rw (lt-leb k 6 h) (stays (through (inl h)));
     }
 
-    leaves : ((first (boardChecks w work []) ≡ 0) → first (checks q w work) ≡ 0 → Leaves w work (act q w work)) → Leaves w work (step q w work)
+    leaves : ((first (boardChecks w work []) ≡ 0) → first (checks q w work) ≡ 0 → After w work (act q w work)) → After w work (step q w work)
     leaves f = go (answered q w work)
       where
-        go : {r : Answer} → Answered q w work r → Leaves w work r
+        go : {r : Answer} → Answered q w work r → After w work r
         go (does e) = f (through (inr e)) e
         go (refuses ne) = turned-down ne
 
-  accept-leaves : (k c : ℕ) (row : List ℕ) → Leaves w work (step (accept k c row) w work)
+  accept-leaves : (k c : ℕ) (row : List ℕ) → After w work (step (accept k c row) w work)
   unfolding act
   accept-leaves k c row =
       leaves (accept k c row) (laterChecks k c row w) refl (λ pass e. finishes pass (order k c row) (place view (writeAt n) n w (order k c row))
       (λ w′ m h. let t = take-in w (order k c row) (sound pass) (ready k c row w work e) (fresh k c row w work e) w′ m h in (t .passed, t .size)))
 
   -- an accepted call that clears the work words and keeps the size
-  clears : (c : ℕ) (w′ : List ℕ) → first (boardChecks w work []) ≡ 0 → Passed w′ → size w′ ≡ n → Leaves w work (record { refusal = 0; count = c; board = w′; work = cleared n work })
+  clears : (c : ℕ) (w′ : List ℕ) → first (boardChecks w work []) ≡ 0 → Passed w′ → size w′ ≡ n → After w work (record { refusal = 0; count = c; board = w′; work = cleared n work })
   clears c w′ pass p e = record {
     same = λ low high. absurd (omega arith);
     accepted = λ _. swept pass w′ p e;
@@ -148,19 +147,19 @@ module _ (w work : List ℕ) where
     refused = λ h z. absurd (omega arith);
   }
 
-  withdraw-leaves : (k : ℕ) → Leaves w work (step (withdraw k) w work)
+  withdraw-leaves : (k : ℕ) → After w work (step (withdraw k) w work)
   unfolding act
   withdraw-leaves k =
       leaves (withdraw k) (withdrawChecks k w) refl (λ pass e. let i = acts (withdraw k) w work (ledgerOf w) (inv-start w (gate-facts w work pass .0)) e .inv in clears 0 _ pass (i .passed) (i .size))
 
-  print-leaves : Leaves w work (step print w work)
+  print-leaves : After w work (step print w work)
   unfolding act
   print-leaves = leaves print [] refl (λ pass e. clears n w pass (sound pass) refl)
 
   -- ---- as the reply to a line tells it
 
   module _ (k : Known) (know : Knows k w work) where
-    reading-tells : (letter number : ℕ) (r : Answer) → (letter ≡ letterS → ⊥) → Leaves w work r → Tells k (record { letter = letter; number = number; refusal = r .refusal; count = r .count }) (r .board) (r .work)
+    reading-tells : (letter number : ℕ) (r : Answer) → (letter ≡ letterS → ⊥) → After w work r → Tells k (record { letter = letter; number = number; refusal = r .refusal; count = r .count }) (r .board) (r .work)
     reading-tells letter number r other l = record {
       stayed = λ low high. let s = l .same low high in rw (s .0, s .1) know;
       opened = λ e is. absurd (other is);

@@ -28,6 +28,7 @@ pub(crate) struct Span {
     pub(crate) high: usize,
 }
 
+// What a call need not find out again.
 pub(crate) struct Known {
     pub(crate) gate: Gate,
     pub(crate) clean: Span,

@@ -1,28 +1,28 @@
 -- How long an answer is with the lines that follow it: never above `replyRoom`.
-use mathlib.Core.Path.{_≡_, refl, sym, ap, _∙_, subst}
+use mathlib.Core.Path.{_≡_, refl, sym, ap, subst}
 use mathlib.Core.Bool.{Bool, true, false, not, _&&_, cond}
 use mathlib.Core.Logic.{_⊎_, inl, inr, _≢_}
-use mathlib.Core.List.{List, [], _∷_, _++_}
-use Prim.Native.Nat.{ℕ, zero, suc, _+_, _-_, _*_, _/_, _≤_, _<_}
+use mathlib.Core.List.{List, [], _∷_}
+use Prim.Native.Nat.{ℕ, zero, suc, _+_, _*_, _≤_}
 use native.Mathlib.Omega.{arith}
 use lib.Dec.{T, eqb, ltb, eqb→eq, T-not, eqb-refl}
-use lib.ListN.{length, take, drop, length-append, length-take}
+use lib.ListN.{length, take, length-append, length-take}
 use Rattle.matching.specs.Lists.{filter, upward}
 use Rattle.matching.specs.Orders.{Order, Seat, seats}
 use Rattle.matching.specs.Placing.{Result, accepted, refused, unfinished, place}
 use Rattle.matching.specs.Blocking.{blocked, rounds}
-use Rattle.matching.proofs.Counting.{dec-T, and-l, and-r}
+use Rattle.matching.proofs.Counting.{and-r}
 use Rattle.rules.specs.Layout.{workWords, size, numberAt, labelAt, view, writeAt}
 use Rattle.rules.specs.Check.{passes}
 use Rattle.rules.specs.Calls.{Call, open-board, accept, withdraw, print, order, Answer, Check, first, shortFor, boardChecks, orderChecks, isHeld, checks, finished, act, refuse, step}
-use Rattle.rules.specs.Ledger.{ok, ledgerOf}
+use Rattle.rules.specs.Ledger.{ledgerOf}
 use Rattle.rules.specs.Lines.{letterP, letterOf, values, lineRefusal, callOf}
 use Rattle.rules.specs.Answers.{printed, letterL, blockedLines, slotsFrom, slotLines, Reply, replyText}
-use Rattle.rules.specs.Runs.{State, Item, line, spoilt, Handled, handleLine, answered as answeredBy, unread, handleItem, handle}
+use Rattle.rules.specs.Runs.{State, Item, line, spoilt, Handled, handleLine, answered as answeredBy, unread, handle}
 use Rattle.rules.specs.Blocks.{replyRoom}
 use Rattle.rules.proofs.CheckLaws.{Passed, passed-of}
 use Rattle.rules.proofs.Checks.{un-not}
-use Rattle.rules.proofs.Steps.{Inv, Stepped, Answered, does, refuses, answered, acts, acts-open}
+use Rattle.rules.proofs.Steps.{Inv, Answered, does, refuses, answered, acts, acts-open}
 use Rattle.rules.proofs.TextLaws.{length-textLine, length-blockedLines}
 
 -- ---- the L lines

@@ -141,6 +141,6 @@ fn main() {
     let mut board = [0u16; 11266];
     let mut work = [0u16; 13316];
     let mut buf = [0u8; 65536];
-    let mut out = [0u8; 65536];
+    let mut out = [0u8; 262144];
     serve(&mut buf, &mut board, &mut work, &mut out);
 }
