@@ -31,6 +31,7 @@ use Rattle.board.specs.declared.gates.Known.{Known}
 use Rattle.board.specs.declared.handling.Handled.{Handled}
 use Rattle.board.specs.declared.handling.Tally.{Tally}
 use Rattle.board.proofs.Answers.{gate-facts}
+use Rattle.board.proofs.RowWalks.{no-true}
 use Rattle.board.proofs.WorkWords.{cleared-zero, length-cleared, length-front, after-list}
 
 -- What an answer r leaves of the board w and the work words: of the calls that read the board.
@@ -49,9 +50,6 @@ late false true c m (inr e) = absurd (omega arith)
 late false false true m (inl h) = absurd (omega arith)
 late false false true m (inr e) = absurd (omega arith)
 late false false false m h = refl
-
-no-true : _≡_ {A = Bool} true false → ⊥
-no-true e = subst (λ (b : Bool). T b) e tt
 
 few-open : (a b : Bool) → cond a 3 (cond b 4 0) ≤ 6
 few-open true b = omega arith

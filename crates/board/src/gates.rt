@@ -1,5 +1,6 @@
 // What is known of a lent board and lent work words, so that nothing is looked at twice: what the checks 4 to 6 say, and which work words are 0.
 ghost use mathlib.Core.Path.{_≡_};
+ghost use mathlib.Core.Bool.{true};
 ghost use mathlib.Core.List.{[]};
 ghost use Prim.Native.Nat.{_≤_};
 ghost use lib.ListN.{length};
@@ -86,6 +87,19 @@ pub(crate) fn assess(board: &[u16], work: &[u16]) -> Known
     let gate = gate_board(board, work);
     let clean = Span { low: 0, high: 0 };
     Known { gate, clean }
+}
+
+// The same for a block, which asks nothing of the board where it has no whole line: then it is not looked at.
+pub(crate) fn assess_if(asked: bool, board: &[u16], work: &[u16]) -> Known
+    ensures { λ r. ⌜ (asked ≡ true → Knows r (now (board .entry)) (now (work .entry))) ⌝ }
+{
+    if asked {
+        return assess(board, work);
+    }
+    Known {
+        gate: Gate::Stop(Refusal::Unsound),
+        clean: Span { low: 0, high: 0 },
+    }
 }
 
 // So many of the first `all` words are to be made 0.

@@ -32,7 +32,7 @@ pub(crate) struct Placed {
     pub(crate) tally: Tally,
 }
 
-// The same with what is known then.
+// The same, with what is known of board and work words then.
 pub(crate) struct Turned {
     pub(crate) placed: Placed,
     pub(crate) known: Known,
@@ -99,7 +99,7 @@ fn put_reply(reply: Reply, board: &[u16], work: &[u16], out: &mut [u8], at: usiz
     put_slots(board, n, out, end)
 }
 
-// A whole line, without its line feed, is handled and answered.
+// A whole line, without its line feed, is handled by what is known, and answered.
 pub(crate) fn answer_line(
     line: &[u8],
     board: &mut [u16],

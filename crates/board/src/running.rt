@@ -5,7 +5,7 @@ ghost use lib.ListN.{length};
 ghost use Rattle.board.specs.Handling.{stateOf};
 ghost use Rattle.board.specs.LineEnds.{LineEnd};
 ghost use Rattle.board.specs.Running.{Leaves, Closes};
-use crate::gates::assess;
+use crate::gates::assess_if;
 use crate::handling::Tally;
 use crate::replies::answer_line;
 use crate::replies::answer_spoilt;
@@ -49,7 +49,7 @@ fn line_end(s: &[u8], from: usize) -> usize
     i
 }
 
-// Whole lines in turn. Before the input's end an unended rest waits, but of one that is too long only its last bytes do; at the end it is refused.
+// The board is checked once; each line leaves what is known true. Whole lines in turn. Before the input's end an unended rest waits, but of one that is too long only its last bytes do; at the end it is refused.
 pub fn run_block(
     input: &[u8],
     ended: bool,
@@ -63,8 +63,8 @@ pub fn run_block(
     let mut at: usize = 0;
     let mut written: usize = 0;
     let mut t = tally;
-    let mut known = assess(board, work);
     let mut e = line_end(input, 0);
+    let mut known = assess_if(e < input.len(), board, work);
     while e < input.len() {
         if out.len() - written < REPLY_ROOM {
             return done(at, written, t);

@@ -136,7 +136,7 @@ fn serve(buf: &mut [u8], board: &mut [u16], work: &mut [u16], out: &mut [u8])
     drain(out, n);
 }
 
-// The words of 1,024 slots.
+// The words of 1,024 slots. Each block checks the board once: the room holds seven of the longest answers, so that this is spread over many lines.
 fn main() {
     let mut board = [0u16; 11266];
     let mut work = [0u16; 13316];

@@ -4,6 +4,7 @@ use mathlib.Core.Path.{_≡_, _∙_}
 use native.Mathlib.Omega.{arith}
 use lib.ListN.{length}
 use borrow.Author.Needs.{needs}
+use borrow.Author.Tests.{lt-ltb}
 use Rattle.board.specs.Gates.{Knows}
 use Rattle.board.specs.Handling.{stateOf}
 use Rattle.board.proofs.BlockTurns.{Turning, start, turn, no-room-left, all-done, no-room-last, waits, refuses}
@@ -11,24 +12,24 @@ use Rattle.board.proofs.running.run_block.Statement.{statement}
 use Rattle.board.proofs.running.run_block.Tie as tie
 
 abbrev Inv-loop : tie.InvT-loop
-Inv-loop input ended board₀ work₀ out₀ at₀ written₀ t₀ known₀ e₀ board work out at written t known e =
-    Turning input ended (stateOf board₀ work₀ t₀) out₀ board work t out at e written × (length board ≡ length board₀) × (length work ≡ length work₀) × Knows known board work
+Inv-loop input ended board₀ work₀ out₀ at₀ written₀ t₀ e₀ known₀ board work out at written t e known =
+    Turning input ended (stateOf board₀ work₀ t₀) out₀ board work t out at e written × (length board ≡ length board₀) × (length work ≡ length work₀) × (e < length input → Knows known board work)
 
 abbrev μ-loop : tie.MeasureT-loop
-μ-loop input ended board₀ work₀ out₀ at₀ written₀ t₀ known₀ e₀ board work out at written t known e = length input - at
+μ-loop input ended board₀ work₀ out₀ at₀ written₀ t₀ e₀ known₀ board work out at written t e known = length input - at
 
 -- a line's end and one more is a number that the machine has
 ends-low : (c : tie.In-loop Inv-loop μ-loop) → c .before .loop .e + 1 < 18446744073709551616
 ends-low c = search needs
 
-assess-requires : tie.Need-assess-requires Inv-loop μ-loop
-assess-requires c κs = search needs
-
 line-end-requires : tie.Need-line-end-requires Inv-loop μ-loop
 line-end-requires c κs = search needs
 
+assess-if-requires : tie.Need-assess-if-requires Inv-loop μ-loop
+assess-if-requires c κs = search needs
+
 loop-holds : tie.Need-loop-holds Inv-loop μ-loop
-loop-holds c = (start _ _ _ _ _ _ _ (c .line-end .ensures), search needs, search needs, c .before .assess .ensures)
+loop-holds c = (start _ _ _ _ _ _ _ (c .before .before .before .line-end .ensures), search needs, search needs, λ lt. c .assess-if .ensures (lt-ltb _ _ lt))
 
 sub-if1 : tie.Need-sub-if1 Inv-loop μ-loop
 sub-if1 c = search needs
@@ -58,7 +59,7 @@ part-answer-line-end : tie.Need-part-answer-line-end Inv-loop μ-loop
 part-answer-line-end c = search needs
 
 answer-line-requires : tie.Need-answer-line-requires Inv-loop μ-loop
-answer-line-requires c κs = search needs
+answer-line-requires c κs = (omega (arith, c .before .before .before .before .if1 .left), c .before .before .before .before .before .before .loop .inv .3 (c .before .before .before .before .before .loop-test .taken))
 
 add-at : tie.Need-add-at Inv-loop μ-loop
 add-at c = record { fits = ends-low (c .before .before .before .before .before .before .before .before .before .before .before .before .before .before .before) }
@@ -76,7 +77,7 @@ loop-again c =
       turn (l .inv .0) (c .before .before .before .before .before .before .before .before .before .before .before .before .before .before .before .before .loop-test .taken) (omega (arith, c .before .before .before .before .before .before .before .before .before .before .before .before .before .before .before .if1 .left)) (call .ensures .0) (c .line-end2 .ensures),
       call .kept .1 .0 ∙ l .inv .1,
       call .kept .1 .1 .0 ∙ l .inv .2,
-      call .ensures .1,
+      λ _. call .ensures .1,
     )
 
 sub-left : tie.Need-sub-left Inv-loop μ-loop
@@ -175,8 +176,8 @@ run-block-spec =
     (tie.spec
     Inv-loop
     μ-loop
-    assess-requires
     line-end-requires
+    assess-if-requires
     loop-holds
     sub-if1
     done-requires
