@@ -5,7 +5,7 @@ use mathlib.Core.Logic.{_⊎_, inl, inr, _≢_}
 use mathlib.Core.Path.{_≡_, refl, sym, _∙_, subst}
 use Prim.Native.Nat.{ℕ, suc, _-_, _≤_}
 use native.Mathlib.Omega.{arith}
-use lib.Dec.{T, eqb, ltb, eqb→eq}
+use lib.Dec.{eqb, ltb, eqb→eq}
 use lib.ListN.{length, getD, drop, set}
 use borrow.Author.Tests.{le-leb, lt-leb, eq-eqb}
 use Rattle.matching.specs.Blocking.{blocked}

@@ -1,6 +1,5 @@
 -- `slotboard::main`: the rooms are as large as `serve` needs them. A law gives a room's length; counting its zeros would take long.
 use Prim.Native.Nat.{ℕ}
-use native.Mathlib.Omega.{arith}
 use lib.ListN.{length-replicate}
 use borrow.Author.Needs.{needs}
 use Rattle.slotboard.proofs.main.Statement.{statement}
@@ -19,7 +18,7 @@ slice-aggregate-serve-4 : tie.Need-slice-aggregate-serve-4
 slice-aggregate-serve-4 c = search needs
 
 serve-requires : tie.Need-serve-requires
-serve-requires c κs = (omega (arith, length-replicate {A = ℕ} 65536 0), omega (arith, length-replicate {A = ℕ} 262144 0))
+serve-requires c κs = simp (length-replicate {A = ℕ}) (search needs)
 
 returns : tie.Need-returns
 returns c = search needs
