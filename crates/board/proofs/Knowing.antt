@@ -88,14 +88,18 @@ module _ (w work : List ℕ) where
           zeros = λ i low high. after-list R (cleared n work) i low ∙ cleared-zero n work room i (omega arith) high;
         }
 
+    -- an accepted call that clears the work words and keeps the size
+    clears : (c : ℕ) (w′ : List ℕ) → Passed w′ → size w′ ≡ n → After w work (record { refusal = 0; count = c; board = w′; work = cleared n work })
+    clears c w′ p e = record {
+      same = λ low high. absurd (omega arith);
+      accepted = λ _. swept w′ p e;
+      blocked = λ z. absurd (omega arith);
+      refused = λ h z. absurd (omega arith);
+    }
+
     finishes : (x : Order) (q : Result (List ℕ)) → ((w′ : List ℕ) (m : ℕ) → q ≡ accepted w′ m → Passed (set w′ 1 (suc (word w 1))) × (size (set w′ 1 (suc (word w 1))) ≡ n)) → After w work (finished w work x q)
     unfolding finished refuse
-    finishes x (accepted w′ m) f = record {
-      same = λ a b. absurd (omega arith);
-      accepted = λ e. swept (set w′ 1 (suc (word w 1))) (f w′ m refl .0) (f w′ m refl .1);
-      blocked = λ e. absurd (omega arith);
-      refused = λ h e. absurd (omega arith);
-    }
+    finishes x (accepted w′ m) f = clears m (set w′ 1 (suc (word w 1))) (f w′ m refl .0) (f w′ m refl .1)
     finishes x refused f = record {
       same = λ a b. absurd (omega arith);
       accepted = λ e. absurd (omega arith);
@@ -136,28 +140,23 @@ module _ (w work : List ℕ) where
       leaves (accept k c row) (laterChecks k c row w) refl (λ pass e. finishes pass (order k c row) (place view (writeAt n) n w (order k c row))
       (λ w′ m h. let t = take-in w (order k c row) (sound pass) (ready k c row w work e) (fresh k c row w work e) w′ m h in (t .passed, t .size)))
 
-  -- an accepted call that clears the work words and keeps the size
-  clears : (c : ℕ) (w′ : List ℕ) → first (boardChecks w work []) ≡ 0 → Passed w′ → size w′ ≡ n → After w work (record { refusal = 0; count = c; board = w′; work = cleared n work })
-  clears c w′ pass p e = record {
-    same = λ low high. absurd (omega arith);
-    accepted = λ _. swept pass w′ p e;
-    blocked = λ z. absurd (omega arith);
-    refused = λ h z. absurd (omega arith);
-  }
-
   withdraw-leaves : (k : ℕ) → After w work (step (withdraw k) w work)
   unfolding act
   withdraw-leaves k =
-      leaves (withdraw k) (withdrawChecks k w) refl (λ pass e. let i = acts (withdraw k) w work (ledgerOf w) (inv-start w (gate-facts w work pass .0)) e .inv in clears 0 _ pass (i .passed) (i .size))
+      leaves (withdraw k) (withdrawChecks k w) refl (λ pass e. let i = acts (withdraw k) w work (ledgerOf w) (inv-start w (gate-facts w work pass .0)) e .inv in clears pass 0 _ (i .passed) (i .size))
 
   print-leaves : After w work (step print w work)
   unfolding act
-  print-leaves = leaves print [] refl (λ pass e. clears n w pass (sound pass) refl)
+  print-leaves = leaves print [] refl (λ pass e. clears pass n w (sound pass) refl)
 
   -- ---- as the reply to a line tells it
 
   module _ (k : Known) (know : Knows k w work) where
-    reading-tells : (letter number : ℕ) (r : Answer) → (letter ≡ letterS → ⊥) → After w work r → Tells k (record { letter = letter; number = number; refusal = r .refusal; count = r .count }) (r .board) (r .work)
+    -- what the answer r tells, as the reply to a line with this letter
+    abbrev Told : ℕ → ℕ → Answer → Type 0
+    Told letter number r = Tells k (record { letter = letter; number = number; refusal = r .refusal; count = r .count }) (r .board) (r .work)
+
+    reading-tells : (letter number : ℕ) (r : Answer) → (letter ≡ letterS → ⊥) → After w work r → Told letter number r
     reading-tells letter number r other l = record {
       stayed = λ low high. let s = l .same low high in rw (s .0, s .1) know;
       opened = λ e is. absurd (other is);
@@ -176,11 +175,11 @@ module _ (w work : List ℕ) where
       refused = λ h _. absurd (omega arith);
     }
 
-    open-tells : (m number : ℕ) → let r = step (open-board m) w work in Tells k (record { letter = letterS; number = number; refusal = r .refusal; count = r .count }) (r .board) (r .work)
+    open-tells : (m number : ℕ) → Told letterS number (step (open-board m) w work)
     unfolding act refuse
     open-tells m number = go (answered (open-board m) w work)
       where
-        go : {r : Answer} → Answered (open-board m) w work r → Tells k (record { letter = letterS; number = number; refusal = r .refusal; count = r .count }) (r .board) (r .work)
+        go : {r : Answer} → Answered (open-board m) w work r → Told letterS number r
         go (does e) = record {
           stayed = λ low high. absurd (omega arith);
           opened = λ _ _. (acts-open m w work (ledgerOf w) e .inv .passed, know .clean);
@@ -191,7 +190,7 @@ module _ (w work : List ℕ) where
         go (refuses ne) = rw (le-leb (first (openChecks m w)) 6 (few-open (not (goodSize m)) (shortFor m w))) (idle-tells _ (omega (arith, ne)) (few-open (not (goodSize m)) (shortFor m w)))
 
     -- the call that a letter asks for
-    asked-tells : (letter number : ℕ) (vs : List ℕ) → let r = step (callOf letter vs) w work in Tells k (record { letter = letter; number = number; refusal = r .refusal; count = r .count }) (r .board) (r .work)
+    asked-tells : (letter number : ℕ) (vs : List ℕ) → Told letter number (step (callOf letter vs) w work)
     unfolding callOf
     asked-tells letter number vs = go (eqb letter letterS) (eqb letter letterA) (eqb letter letterW) refl
       where
@@ -201,8 +200,8 @@ module _ (w work : List ℕ) where
         other : eqb letter letterS ≡ false → letter ≡ letterS → ⊥
         other f e = no-true (sym (eq-eqb letter letterS e) ∙ f)
 
-        go : (a b c : Bool) → eqb letter letterS ≡ a → let r = step (call a b c) w work in Tells k (record { letter = letter; number = number; refusal = r .refusal; count = r .count }) (r .board) (r .work)
-        go true b c e = subst (λ (x : ℕ). let r = step (open-board (getD vs 0 0)) w work in Tells k (record { letter = x; number = number; refusal = r .refusal; count = r .count }) (r .board) (r .work)) (sym (eqb→eq letter letterS (rw e tt))) (open-tells (getD vs 0 0) number)
+        go : (a b c : Bool) → eqb letter letterS ≡ a → Told letter number (step (call a b c) w work)
+        go true b c e = subst (λ (x : ℕ). Told x number (step (open-board (getD vs 0 0)) w work)) (sym (eqb→eq letter letterS (rw e tt))) (open-tells (getD vs 0 0) number)
         go false true c e = reading-tells letter number _ (other e) (accept-leaves (getD vs 0 0) (length vs - 1) (row8 (drop 1 vs)))
         go false false true e = reading-tells letter number _ (other e) (withdraw-leaves (getD vs 0 0))
         go false false false e = reading-tells letter number _ (other e) print-leaves
