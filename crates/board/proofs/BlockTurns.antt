@@ -22,20 +22,11 @@ use Rattle.board.specs.Handling.{stateOf}
 use Rattle.board.specs.Answering.{Answers}
 use Rattle.board.specs.LineEnds.{LineEnd}
 use Rattle.board.specs.Running.{Leaves}
+use Rattle.board.specs.Turning.{Left, todo, Turning}
 use Rattle.board.proofs.LineEnds.{line-clean, line-length, line-split, rest-clean, rest-length}
 
 pub sets-start : (l a : List ℕ) → length a ≤ length l → sets l 0 a ≡ a ++ drop (length a) l
 sets-start l a h = sets-eq a l 0 (rw zero-add h) ∙ rw zero-add
-
--- p is what is left to do, q the whole
-pub record Left (p q : Portion) (out₀ out : List ℕ) (at written : ℕ) : Type 0 where
-  pub used : at + p .used ≡ q .used
-  pub long : written + length (p .text) ≡ length (q .text)
-  pub stored : sets out written (p .text) ≡ sets out₀ 0 (q .text)
-  pub state : p .state ≡ q .state
-
-abbrev todo : List ℕ → Bool → State → List ℕ → ℕ → ℕ → Portion
-todo input ended s out₀ at written = block (length out₀ - written) ended s (drop at input)
 
 -- one line done: p is its answer o and then p′
 left-joined : (p p′ q : Portion) (i : Item) (o : Out) (out₀ out out₁ : List ℕ) (at n written end : ℕ) → p ≡ joined n i o p′ → end ≡ written + length (o .text) → out₁ ≡ sets out written (o .text)
@@ -95,13 +86,6 @@ refusedRest n s = record { used = n; lines = spoilt ∷ []; text = handle s spoi
 one-left : (room : ℕ) (s : State) (r : List ℕ) → replyRoom ≤ room → (length r ≡ 0 → ⊥) → lastPortion room s r ≡ refusedRest (length r) s
 one-left room s [] h n = absurd (n refl)
 one-left room s (b ∷ r) h n = rw (le-leb replyRoom room h, add-zero, append-nil)
-
--- What holds at the loop's test: the line from index `at` on ends at e, and `written` bytes of the room are used.
-pub record Turning (input : List ℕ) (ended : Bool) (s₀ : State) (out₀ board work : List ℕ) (t : Tally) (out : List ℕ) (at e written : ℕ) : Type 0 where
-  pub line : LineEnd input at e
-  pub fits : written ≤ length out₀
-  pub same : length out ≡ length out₀
-  pub left : Left (todo input ended (stateOf board work t) out₀ at written) (block (length out₀) ended s₀ input) out₀ out at written
 
 pub start : (input : List ℕ) (ended : Bool) (out board work : List ℕ) (t : Tally) (e : ℕ) → LineEnd input 0 e → Turning input ended (stateOf board work t) out board work t out 0 e 0
 start input ended out board work t e d =

@@ -7,3 +7,4 @@ pub mod Replying
 pub mod Answering
 pub mod Running
 pub mod LineEnds
+pub mod Turning

@@ -5,6 +5,7 @@ ghost use lib.ListN.{length};
 ghost use Rattle.board.specs.Handling.{stateOf};
 ghost use Rattle.board.specs.LineEnds.{LineEnd};
 ghost use Rattle.board.specs.Running.{Leaves, Closes};
+ghost use Rattle.board.specs.Turning.{Finishes};
 use crate::gates::assess_if;
 use crate::handling::Tally;
 use crate::replies::answer_line;
@@ -49,7 +50,30 @@ fn line_end(s: &[u8], from: usize) -> usize
     i
 }
 
-// The board is checked once; each line leaves what is known true. Whole lines in turn. Before the input's end an unended rest waits, but of one that is too long only its last bytes do; at the end it is refused.
+// What is left from `at` to the end e is no whole line. Before the input's end it waits, but of one that is too long only its last bytes do; at the end it is refused.
+fn finish(ended: bool, at: usize, e: usize, written: usize, t: Tally, out: &mut [u8]) -> Block
+    requires { ⌜ (at ≤ e) × (written ≤ length (now out)) ⌝ }
+    ensures { λ r. ⌜ Finishes ended at e written t (now (out .entry)) r (now (out .exit)) ⌝ }
+{
+    let left = e - at;
+    if !ended {
+        if WAITING < left {
+            return done(e - WAITING, written, t);
+        }
+        return done(at, written, t);
+    }
+    if left == 0 {
+        return done(at, written, t);
+    }
+    if out.len() - written < REPLY_ROOM {
+        return done(at, written, t);
+    }
+    let p = answer_spoilt(t, out, written);
+    let u = p.tally;
+    done(e, p.end, u)
+}
+
+// Whole lines in turn. The board is checked once; each line leaves what is known true.
 pub fn run_block(
     input: &[u8],
     ended: bool,
@@ -78,22 +102,7 @@ pub fn run_block(
         at = e + 1;
         e = line_end(input, at);
     }
-    let left = e - at;
-    if ended {
-        if left == 0 {
-            return done(at, written, t);
-        }
-        if out.len() - written < REPLY_ROOM {
-            return done(at, written, t);
-        }
-        let p = answer_spoilt(t, out, written);
-        let u = p.tally;
-        return done(e, p.end, u);
-    }
-    if WAITING < left {
-        return done(e - WAITING, written, t);
-    }
-    done(at, written, t)
+    finish(ended, at, e, written, t, out)
 }
 
 // The N line.

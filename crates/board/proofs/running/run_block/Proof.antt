@@ -7,7 +7,8 @@ use borrow.Author.Needs.{needs}
 use borrow.Author.Tests.{lt-ltb}
 use Rattle.board.specs.Gates.{Knows}
 use Rattle.board.specs.Handling.{stateOf}
-use Rattle.board.proofs.BlockTurns.{Turning, start, turn, no-room-left, all-done, no-room-last, waits, refuses}
+use Rattle.board.specs.Turning.{Turning}
+use Rattle.board.proofs.BlockTurns.{start, turn, no-room-left}
 use Rattle.board.proofs.running.run_block.Statement.{statement}
 use Rattle.board.proofs.running.run_block.Tie as tie
 
@@ -80,11 +81,8 @@ loop-again c =
       λ _. call .ensures .1,
     )
 
-sub-left : tie.Need-sub-left Inv-loop μ-loop
-sub-left c = search needs
-
-done-requires-2 : tie.Need-done-requires-2 Inv-loop μ-loop
-done-requires-2 c κs = search needs
+finish-requires : tie.Need-finish-requires Inv-loop μ-loop
+finish-requires c κs = let h = c .before .before .loop .inv .0 in (h .line .after, omega (arith, h .fits, h .same))
 
 same-length-4 : tie.Need-same-length-4 Inv-loop μ-loop
 same-length-4 c = search needs
@@ -96,79 +94,7 @@ same-length-6 : tie.Need-same-length-6 Inv-loop μ-loop
 same-length-6 c = search needs
 
 returns-2 : tie.Need-returns-2 Inv-loop μ-loop
-returns-2 c = all-done (c .before .before .before .before .loop .inv .0) (c .done2 .ensures) (c .before .before .before .loop-test .left) (c .before .before .if2 .taken) (omega (arith, c .before .if3 .taken))
-
-sub-if4 : tie.Need-sub-if4 Inv-loop μ-loop
-sub-if4 c = search needs
-
-done-requires-3 : tie.Need-done-requires-3 Inv-loop μ-loop
-done-requires-3 c κs = search needs
-
-same-length-7 : tie.Need-same-length-7 Inv-loop μ-loop
-same-length-7 c = search needs
-
-same-length-8 : tie.Need-same-length-8 Inv-loop μ-loop
-same-length-8 c = search needs
-
-same-length-9 : tie.Need-same-length-9 Inv-loop μ-loop
-same-length-9 c = search needs
-
-returns-3 : tie.Need-returns-3 Inv-loop μ-loop
-returns-3 c = no-room-last (c .before .before .before .before .before .loop .inv .0) (c .done3 .ensures) (c .before .before .before .before .loop-test .left) (c .before .before .before .if2 .taken) (omega (arith, c .before .if4 .taken))
-
-answer-spoilt-requires : tie.Need-answer-spoilt-requires Inv-loop μ-loop
-answer-spoilt-requires c κs = search needs
-
-done-requires-4 : tie.Need-done-requires-4 Inv-loop μ-loop
-done-requires-4 c κs = search needs
-
-same-length-10 : tie.Need-same-length-10 Inv-loop μ-loop
-same-length-10 c = search needs
-
-same-length-11 : tie.Need-same-length-11 Inv-loop μ-loop
-same-length-11 c = search needs
-
-same-length-12 : tie.Need-same-length-12 Inv-loop μ-loop
-same-length-12 c = search needs
-
-returns-4 : tie.Need-returns-4 Inv-loop μ-loop
-returns-4 c =
-    let l = c .before .before .before .before .before .before .before .before .before .before .loop in
-    refuses (l .inv .0) (c .done4 .ensures) (c .before .before .before .before .before .before .before .before .before .loop-test .left) (c .before .before .before .before .before .before .before .before .if2 .taken) (omega (arith, c .before .before .before .before .before .before .if4 .left)) (λ q. omega (arith, c .before .before .before .before .before .before .before .if3 .left))
-    (c .before .before .before .before .answer-spoilt .ensures (l .board) (l .work))
-
-sub-done : tie.Need-sub-done Inv-loop μ-loop
-sub-done c = search needs
-
-done-requires-5 : tie.Need-done-requires-5 Inv-loop μ-loop
-done-requires-5 c κs = search needs
-
-same-length-13 : tie.Need-same-length-13 Inv-loop μ-loop
-same-length-13 c = search needs
-
-same-length-14 : tie.Need-same-length-14 Inv-loop μ-loop
-same-length-14 c = search needs
-
-same-length-15 : tie.Need-same-length-15 Inv-loop μ-loop
-same-length-15 c = search needs
-
-returns-5 : tie.Need-returns-5 Inv-loop μ-loop
-returns-5 c = waits (c .before .before .before .before .loop .inv .0) (c .done5 .ensures) (c .before .before .before .loop-test .left) (c .before .before .if2 .left) (omega (arith, c .before .if5 .taken))
-
-done-requires-6 : tie.Need-done-requires-6 Inv-loop μ-loop
-done-requires-6 c κs = search needs
-
-same-length-16 : tie.Need-same-length-16 Inv-loop μ-loop
-same-length-16 c = search needs
-
-same-length-17 : tie.Need-same-length-17 Inv-loop μ-loop
-same-length-17 c = search needs
-
-same-length-18 : tie.Need-same-length-18 Inv-loop μ-loop
-same-length-18 c = search needs
-
-returns-6 : tie.Need-returns-6 Inv-loop μ-loop
-returns-6 c = waits (c .before .before .before .before .loop .inv .0) (c .done6 .ensures) (c .before .before .before .loop-test .left) (c .before .before .if2 .left) (omega (arith, c .before .if5 .left))
+returns-2 c = c .before .before .finish .ensures _ _ _ _ _ (c .before .before .before .before .before .loop .inv .0) (c .before .before .before .before .loop-test .left)
 
 pub run-block-spec : {M : Type 1} → statement M
 run-block-spec =
@@ -193,32 +119,8 @@ run-block-spec =
     line-end-requires-2
     loop-less
     loop-again
-    sub-left
-    done-requires-2
+    finish-requires
     same-length-4
     same-length-5
     same-length-6
-    returns-2
-    sub-if4
-    done-requires-3
-    same-length-7
-    same-length-8
-    same-length-9
-    returns-3
-    answer-spoilt-requires
-    done-requires-4
-    same-length-10
-    same-length-11
-    same-length-12
-    returns-4
-    sub-done
-    done-requires-5
-    same-length-13
-    same-length-14
-    same-length-15
-    returns-5
-    done-requires-6
-    same-length-16
-    same-length-17
-    same-length-18
-    returns-6)
+    returns-2)
