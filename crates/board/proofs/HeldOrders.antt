@@ -5,7 +5,7 @@ use mathlib.Core.Path.{_≡_, refl, sym, ap, _∙_, subst}
 use Prim.Native.Nat.{ℕ, zero, suc, _+_, _-_, _≤_, _<_}
 use native.Mathlib.Decide.{ℕ-discrete}
 use native.Mathlib.Omega.{arith}
-use lib.Dec.{eqb, leb, le→leb}
+use lib.Dec.{T, eqb, leb, le→leb, eqb→eq}
 use lib.ListN.{length, getD, set, replicate}
 use lib.Seq.{getD-set-same, getD-set-other}
 use borrow.Author.Tests.{eq-eqb, ne-eqb, lt-leb}
@@ -17,8 +17,8 @@ use Rattle.matching.proofs.Sets.{all-of}
 use Rattle.rules.specs.Check.{noneTwice}
 use Rattle.rules.specs.Layout.{numberAt, orderAt, heldAt, view}
 use Rattle.rules.proofs.CheckLaws.{held-none, held-some, held-one}
-use Rattle.board.specs.Carry.{heldOn}
-use Rattle.board.proofs.RowWalks.{all-false, is-true}
+use Rattle.board.specs.Carry.{heldOn, hasNumber}
+use Rattle.board.proofs.RowWalks.{all-false, no-true, is-true}
 
 names : (s : ℕ) (os : List Order) (rest : List Seat) → orders (map (λ (o : Order). seat o s) os ++ rest) ≡ os ++ orders rest
 names s [] rest = refl
@@ -157,6 +157,52 @@ flags-done w flags s n lo hi f =
     (λ o m. le→leb (countIf (sameNumber (o .number)) (heldOn n w)) 1
     (let e : s - 1 ≡ n = omega arith in
     omega (arith, ap (λ (j : ℕ). countIf (sameNumber (o .number)) (heldOn j w)) e, f (o .number) (held-named w n o m), indicator-le (getD flags (o .number) false)))))
+
+-- ---- the look for a number, four slots at a time
+
+or-no : (a b : Bool) → (a || b) ≡ false → (a ≡ false) × (b ≡ false)
+or-no true b e = absurd (no-true e)
+or-no false b e = (refl, e)
+
+-- a number that was read, against the one looked for
+pub has : (w : List ℕ) (k s r : ℕ) → r ≡ numberAt w s → r ≡ k → hasNumber w k s ≡ true
+has w k s r e f = eq-eqb (numberAt w s) k (sym e ∙ f)
+
+pub has-not : (w : List ℕ) (k s r : ℕ) → r ≡ numberAt w s → (r ≡ k → ⊥) → hasNumber w k s ≡ false
+has-not w k s r e f = ne-eqb (numberAt w s) k (λ z. f (e ∙ z))
+
+pub last-of-four : (a b c d : Bool) → a ≡ false → b ≡ false → c ≡ false → d ≡ (a || (b || (c || (d || false))))
+last-of-four a b c true p q r = sym (rw (p, q, r))
+last-of-four a b c false p q r = sym (rw (p, q, r))
+
+hit : (w : List ℕ) (n k s : ℕ) (more : Bool) → 1 ≤ k → 1 ≤ s → s ≤ n → (more ≡ true → any (sameNumber k) (heldOn n w) ≡ true) → (hasNumber w k s || more) ≡ true → any (sameNumber k) (heldOn n w) ≡ true
+hit w n k s more pos lo hi f e = go (hasNumber w k s) refl
+  where
+    go : (b : Bool) → hasNumber w k s ≡ b → any (sameNumber k) (heldOn n w) ≡ true
+    go true y = lookup-hit w n s k lo hi pos (eqb→eq (numberAt w s) k (rw y tt))
+    go false y = f (ap (λ (b : Bool). b || more) (sym y) ∙ e)
+
+pub four-found : (w : List ℕ) (n s k : ℕ) → 1 ≤ k → 1 ≤ s → s + 3 ≤ n → any (hasNumber w k) (s ∷ (s + 1) ∷ (s + 2) ∷ (s + 3) ∷ []) ≡ true → any (sameNumber k) (heldOn n w) ≡ true
+four-found w n s k pos lo hi =
+    hit w n k s _ pos lo (omega arith)
+    (hit w n k (s + 1) _ pos (omega arith) (omega arith) (hit w n k (s + 2) _ pos (omega arith) (omega arith) (hit w n k (s + 3) false pos (omega arith) hi (λ e. absurd (no-true (sym e))))))
+
+miss : (w : List ℕ) (k a s b : ℕ) → 1 ≤ s → s - 1 ≡ a → b ≡ s → hasNumber w k s ≡ false → any (sameNumber k) (heldOn a w) ≡ false → any (sameNumber k) (heldOn b w) ≡ false
+miss w k a s b lo e f ne h =
+    let last : s + 1 - 1 ≡ b = omega arith in
+    subst (λ (j : ℕ). any (sameNumber k) (heldOn j w) ≡ false) last
+    (lookup-more w s k lo (λ z. no-true (sym (eq-eqb (numberAt w s) k z) ∙ ne)) (subst (λ (j : ℕ). any (sameNumber k) (heldOn j w) ≡ false) (sym e) h))
+
+pub four-missed : (w : List ℕ) (s k : ℕ) → 1 ≤ s → any (hasNumber w k) (s ∷ (s + 1) ∷ (s + 2) ∷ (s + 3) ∷ []) ≡ false → any (sameNumber k) (heldOn (s - 1) w) ≡ false
+    → any (sameNumber k) (heldOn (s + 4 - 1) w) ≡ false
+four-missed w s k lo e h =
+    let p0 = or-no (hasNumber w k s) _ e in
+    let p1 = or-no (hasNumber w k (s + 1)) _ (p0 .1) in
+    let p2 = or-no (hasNumber w k (s + 2)) _ (p1 .1) in
+    let p3 = or-no (hasNumber w k (s + 3)) _ (p2 .1) in
+    miss w k (s + 2) (s + 3) (s + 4 - 1) (omega arith) (omega arith) (omega arith) (p3 .0)
+    (miss w k (s + 1) (s + 2) (s + 2) (omega arith) (omega arith) refl (p2 .0)
+    (miss w k s (s + 1) (s + 1) (omega arith) (omega arith) refl (p1 .0) (miss w k (s - 1) s s lo refl refl (p0 .0) h)))
 
 pub any-some : {A : Type 0} (P : A → Bool) (l : List A) → any P l ≡ true → 1 ≤ length l
 any-some P [] e = let z : _≡_ {A = ℕ} 0 1 = cc in absurd (omega arith)

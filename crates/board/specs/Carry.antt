@@ -1,11 +1,13 @@
 -- Internal: not part of what a reader must believe.
 -- An order as the code carries it, and what the code relies on while it places one.
+use mathlib.Core.Bool.{Bool, false}
 use mathlib.Core.List.{List, _∷_}
 use mathlib.Core.Path.{_≡_}
-use Prim.Native.Nat.{ℕ, _≤_, _<_}
+use Prim.Native.Nat.{ℕ, _+_, _-_, _≤_, _<_}
+use lib.Dec.{eqb}
 use lib.ListN.{length, getD, take}
 use lib.Seq.{sets}
-use Rattle.matching.specs.Lists.{countIf}
+use Rattle.matching.specs.Lists.{countIf, any}
 use Rattle.matching.specs.Orders.{Order, openSlots, orders, seats, sameNumber}
 use Rattle.matching.specs.Placing.{Result, refused, pick, newLabel, place}
 use Rattle.matching.proofs.Moves.{Ready, Good}
@@ -83,3 +85,16 @@ pub record Bringing (w work : List ℕ) (x : Loose) : Type 0 where
 -- the search for x, with the board's own n
 abbrev pub placed : List ℕ → Order → Result (List ℕ)
 placed w x = place view (writeAt (word w 0)) (word w 0) w x
+
+-- slot s has the number k
+abbrev pub hasNumber : List ℕ → ℕ → ℕ → Bool
+hasNumber w k s = eqb (numberAt w s) k
+
+-- the number k is in no slot before `from`
+pub record HeldFrom (n : ℕ) (w : List ℕ) (k from : ℕ) : Type 0 where
+  pub small : n ≤ mostSlots
+  pub fits : boardWords n ≤ length w
+  pub some : 1 ≤ k
+  pub low : 1 ≤ from
+  pub high : from ≤ n + 1
+  pub none : any (sameNumber k) (heldOn (from - 1) w) ≡ false

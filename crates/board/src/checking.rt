@@ -1,12 +1,13 @@
 // Whether a board passes the check; the lookup of a number, which the calls share with it.
 ghost use mathlib.Core.Path.{_≡_};
-ghost use Prim.Native.Nat.{_≤_};
+ghost use mathlib.Core.List.{[], _∷_};
+ghost use Prim.Native.Nat.{_+_, _≤_};
 ghost use lib.ListN.{length, take};
 ghost use Rattle.matching.specs.Lists.{slots, member, any, all};
 ghost use Rattle.matching.specs.Orders.{sameNumber};
 ghost use Rattle.rules.specs.Check.{zeros, lowLabel, heldFine, slotFine, noneTwice, passes};
 ghost use Rattle.rules.specs.Layout.{mostSlots, mostChoices, boardWords};
-ghost use Rattle.board.specs.Carry.{RowOn, heldOn, OnBoard};
+ghost use Rattle.board.specs.Carry.{RowOn, heldOn, OnBoard, hasNumber, HeldFrom};
 use crate::words::HEAD_WORDS;
 use crate::words::HELD;
 use crate::words::MOST_CHOICES;
@@ -127,12 +128,29 @@ fn count_held(board: &[u16], n: u16) -> u16
     held
 }
 
-// The number k, which is above 0, is held: the one place that looks for a number.
-pub(crate) fn is_held(board: &[u16], n: u16, k: u16) -> bool
-    requires { ⌜ (n ≤ mostSlots) × (boardWords n ≤ length (now board)) × (1 ≤ k) ⌝ }
+// One of the slots s to s + 3 has number k. Four at a time is what makes the look for a number fast.
+fn four_hold(board: &[u16], s: u16, k: u16) -> bool
+    requires { ⌜ (s ≤ mostSlots) × (1 ≤ s) × (boardWords (s + 3) ≤ length (now board)) ⌝ }
+    ensures { λ r. ⌜ r ≡ any (hasNumber (now (board .entry)) k) (s ∷ (s + 1) ∷ (s + 2) ∷ (s + 3) ∷ []) ⌝ }
+{
+    if number_at(board, s) == k {
+        return true;
+    }
+    if number_at(board, s + 1) == k {
+        return true;
+    }
+    if number_at(board, s + 2) == k {
+        return true;
+    }
+    number_at(board, s + 3) == k
+}
+
+// The number k is in a slot from `from` on, where it is in none before.
+fn held_from(board: &[u16], n: u16, k: u16, from: u16) -> bool
+    requires { ⌜ HeldFrom n (now board) k from ⌝ }
     ensures { λ r. ⌜ r ≡ any (sameNumber k) (heldOn n (now (board .entry))) ⌝ }
 {
-    let mut s: u16 = 1;
+    let mut s = from;
     while s <= n {
         if number_at(board, s) == k {
             return true;
@@ -140,6 +158,21 @@ pub(crate) fn is_held(board: &[u16], n: u16, k: u16) -> bool
         s += 1;
     }
     false
+}
+
+// The number k, which is above 0, is held: the one place that looks for a number.
+pub(crate) fn is_held(board: &[u16], n: u16, k: u16) -> bool
+    requires { ⌜ (n ≤ mostSlots) × (boardWords n ≤ length (now board)) × (1 ≤ k) ⌝ }
+    ensures { λ r. ⌜ r ≡ any (sameNumber k) (heldOn n (now (board .entry))) ⌝ }
+{
+    let mut s: u16 = 1;
+    while s + 3 <= n {
+        if four_hold(board, s, k) {
+            return true;
+        }
+        s += 4;
+    }
+    held_from(board, n, k, s)
 }
 
 // No order number above 0 stands twice: a flag for each number, so one walk is enough.
