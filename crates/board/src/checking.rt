@@ -5,7 +5,7 @@ ghost use Prim.Native.Nat.{_+_, _≤_};
 ghost use lib.ListN.{length, take};
 ghost use Rattle.matching.specs.Lists.{slots, member, any, all};
 ghost use Rattle.matching.specs.Orders.{sameNumber};
-ghost use Rattle.rules.specs.Check.{zeros, lowLabel, heldFine, slotFine, noneTwice, passes};
+ghost use Rattle.rules.specs.Check.{lowLabel, heldFine, slotFine, noneTwice, passes};
 ghost use Rattle.rules.specs.Layout.{mostSlots, mostChoices, boardWords};
 ghost use Rattle.board.specs.Carry.{RowOn, heldOn, OnBoard, hasNumber, HeldFrom};
 use crate::words::HEAD_WORDS;

@@ -1,7 +1,6 @@
 use mathlib.Core.Bool.{false}
 use mathlib.Core.Path.{_≡_, refl, sym, _∙_}
 use Prim.Native.Nat.{_+_, _-_, _≤_}
-use native.Mathlib.Omega.{arith}
 use Rattle.matching.specs.Lists.{any}
 use Rattle.matching.specs.Orders.{sameNumber}
 use Rattle.board.specs.Carry.{heldOn}
