@@ -14,16 +14,16 @@ use Rattle.rules.specs.Days.{KeptByLines}
 use Rattle.rules.proofs.Streams.{block-line, block-full, block-rest, block-lines, block-run, block-step, block-idle}
 use Rattle.rules.proofs.Replies.{handle-fits}
 use Rattle.rules.proofs.Days.{kept-by-lines}
+use Rattle.reading.specs.Ends.{lineEnd}
 use Rattle.writing.proofs.Texts.{sets-next}
 use Rattle.board.specs.declared.handling.Tally.{Tally}
 use Rattle.board.specs.declared.running.Block.{Block}
 use Rattle.board.specs.declared.replies.Placed.{Placed}
 use Rattle.board.specs.Handling.{stateOf}
 use Rattle.board.specs.Answering.{Answers}
-use Rattle.board.specs.LineEnds.{LineEnd}
 use Rattle.board.specs.Running.{Leaves}
 use Rattle.board.specs.Turning.{Left, todo, Turning}
-use Rattle.board.proofs.LineEnds.{line-clean, line-length, line-split, rest-clean, rest-length}
+use Rattle.board.proofs.LineEnds.{line-ends, line-clean, line-length, line-split, rest-clean, rest-length}
 
 pub sets-start : (l a : List ℕ) → length a ≤ length l → sets l 0 a ≡ a ++ drop (length a) l
 sets-start l a h = sets-eq a l 0 (rw zero-add h) ∙ rw zero-add
@@ -87,17 +87,17 @@ one-left : (room : ℕ) (s : State) (r : List ℕ) → replyRoom ≤ room → (l
 one-left room s [] h n = absurd (n refl)
 one-left room s (b ∷ r) h n = rw (le-leb replyRoom room h, add-zero, append-nil)
 
-pub start : (input : List ℕ) (ended : Bool) (out board work : List ℕ) (t : Tally) (e : ℕ) → LineEnd input 0 e → Turning input ended (stateOf board work t) out board work t out 0 e 0
+pub start : (input : List ℕ) (ended : Bool) (out board work : List ℕ) (t : Tally) (e : ℕ) → e ≡ lineEnd input 0 → Turning input ended (stateOf board work t) out board work t out 0 e 0
 start input ended out board work t e d =
-    record { line = d; fits = omega arith; same = refl; left = rw sub-zero (record { used = zero-add _; long = zero-add _; stored = refl; state = refl }) }
+    record { line = line-ends input 0 e (omega arith) d; fits = omega arith; same = refl; left = rw sub-zero (record { used = zero-add _; long = zero-add _; stored = refl; state = refl }) }
 
 module _ {input : List ℕ} {ended : Bool} {s₀ : State} {out₀ board work : List ℕ} {t : Tally} {out : List ℕ} {at e written : ℕ}
     (h : Turning input ended s₀ out₀ board work t out at e written) where
   -- a line with room for its answer
   pub turn : {out₁ board₁ work₁ : List ℕ} {r : Placed} {e₁ : ℕ} → e < length input → replyRoom ≤ length out - written
-      → Answers (handle (stateOf board work t) (framed (take (e - at) (drop at input)))) out written r board₁ work₁ out₁ → LineEnd input (e + 1) e₁
+      → Answers (handle (stateOf board work t) (framed (take (e - at) (drop at input)))) out written r board₁ work₁ out₁ → e₁ ≡ lineEnd input (e + 1)
       → Turning input ended s₀ out₀ board₁ work₁ (r .tally) out₁ (e + 1) e₁ (r .end)
-  turn {out₁} {board₁} {work₁} {r} lt room x d₁ =
+  turn {out₁} {board₁} {work₁} {r} {e₁} lt room x d₁ =
       let d = h .line in
       let l = take (e - at) (drop at input) in
       let o = handle (stateOf board work t) (framed l) in
@@ -109,7 +109,7 @@ module _ {input : List ℕ} {ended : Bool} {s₀ : State} {out₀ board work : L
       ∙ ap (λ (k : ℕ). joined (length l + 1) (framed l) o (block k ended (o .state) (drop (e + 1) input))) less
       ∙ ap (λ (s₁ : State). joined (length l + 1) (framed l) o (block (length out₀ - r .end) ended s₁ (drop (e + 1) input))) (sym (x .state)) in
       record {
-        line = d₁;
+        line = line-ends input (e + 1) e₁ (omega arith) d₁;
         fits = omega (arith, x .end, h .same, handle-fits (stateOf board work t) (framed l));
         same = ap length (x .output) ∙ length-sets out written (o .text) ∙ h .same;
         left = rw place at (left-joined _ _ _ (framed l) o out₀ out out₁ at (length l + 1) written (r .end) one (x .end) (x .output) (h .left));

@@ -1,21 +1,26 @@
 -- The line that ends where a line feed was found, and the rest where none is left.
 use Prim.Native.Nat.{ℕ, suc, _+_, _-_, _≤_, _<_}
-use mathlib.Core.Path.{_≡_, sym, ap, ap₂, _∙_}
+use mathlib.Core.Path.{_≡_, sym, ap, ap₂, subst, _∙_}
 use mathlib.Core.List.{List, _∷_, _++_}
-use mathlib.Core.Logic.{⊎-elim}
 use native.Mathlib.Omega.{arith}
-use native.Mathlib.Nat.{eq-or-lt-of-le}
 use lib.ListN.{length, getD, take, drop, length-take, length-drop}
 use lib.Seq.{split-at, getD-drop, getD-take, drop-drop}
 use Rattle.rules.specs.Text.{lineFeed}
 use Rattle.rules.proofs.Cutting.{Clean}
+use Rattle.reading.specs.Ends.{lineEnd}
+use Rattle.reading.proofs.EndLaws.{end-within, end-found, end-first}
 use Rattle.board.specs.LineEnds.{LineEnd}
 
--- one index more that holds no line feed
-pub passed : (s : List ℕ) (from i : ℕ) → ((k : ℕ) → k < i → from ≤ k → getD s k 0 ≡ lineFeed → ⊥) → (getD s i 0 ≡ lineFeed → ⊥)
-    → (k : ℕ) → k < i + 1 → from ≤ k → getD s k 0 ≡ lineFeed → ⊥
-passed s from i h n k l f e =
-    ⊎-elim (λ (q : k ≡ i). n (ap (λ (j : ℕ). getD s j 0) (sym q) ∙ e)) (λ (q : k < i). h k q f e) (eq-or-lt-of-le (let g : k ≤ i = omega arith in g))
+pub line-ends : (s : List ℕ) (from r : ℕ) → from ≤ length s → r ≡ lineEnd s from → LineEnd s from r
+line-ends s from r h e =
+    subst (LineEnd s from) (sym e) record {
+      after = omega arith;
+      within = end-within s from h;
+      found = end-found s from;
+      none = λ k p f.
+          let back : from + (k - from) ≡ k = omega arith in
+          λ q. end-first s from (k - from) (omega arith) (ap (λ (j : ℕ). getD s j 0) back ∙ q);
+    }
 
 module _ (s : List ℕ) (from e : ℕ) (h : LineEnd s from e) where
   pub line-clean : Clean (take (e - from) (drop from s))

@@ -3,13 +3,13 @@ ghost use mathlib.Core.Path.{_≡_};
 ghost use Prim.Native.Nat.{_≤_};
 ghost use lib.ListN.{length};
 ghost use Rattle.board.specs.Handling.{stateOf};
-ghost use Rattle.board.specs.LineEnds.{LineEnd};
 ghost use Rattle.board.specs.Running.{Leaves, Closes};
 ghost use Rattle.board.specs.Turning.{Finishes};
 use crate::gates::assess_if;
 use crate::handling::Tally;
 use crate::replies::answer_line;
 use crate::replies::answer_spoilt;
+use reading::line_end;
 use writing::put_answer;
 
 // No answer with the lines that follow it is longer.
@@ -33,21 +33,6 @@ fn done(consumed: usize, written: usize, tally: Tally) -> Block
         written,
         tally,
     }
-}
-
-// The index of the first line feed at or after `from`, or the length where there is none.
-fn line_end(s: &[u8], from: usize) -> usize
-    requires { ⌜ from ≤ length (now s) ⌝ }
-    ensures { λ r. ⌜ LineEnd (now (s .entry)) from r ⌝ }
-{
-    let mut i = from;
-    while i < s.len() {
-        if s[i] == b'\n' {
-            return i;
-        }
-        i += 1;
-    }
-    i
 }
 
 // What is left from `at` to the end e is no whole line. Before the input's end it waits, but of one that is too long only its last bytes do; at the end it is refused.

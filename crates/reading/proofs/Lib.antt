@@ -1,3 +1,4 @@
 pub mod ColumnLaws
 pub mod LineLaws
 pub mod LineUses
+pub mod EndLaws

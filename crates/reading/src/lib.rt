@@ -1,4 +1,7 @@
 // A line from the printers: its bytes, without the line feed, as a kind and up to ten numbers, or as refusal 1 or 2.
+mod ends;
+
+pub use ends::line_end;
 ghost use mathlib.Core.Path.{_≡_};
 ghost use mathlib.Core.Bool.{true};
 ghost use mathlib.Core.List.{_∷_};
