@@ -24,10 +24,10 @@ use Rattle.rules.proofs.Checks as Checks
 use Rattle.rules.proofs.WordLaws.{take-row8, row8-same}
 use Rattle.board.specs.Carry.{carried, Bringing, placed}
 use Rattle.board.specs.Gates.{laterChecks}
-use Rattle.board.specs.Said.{code, said}
-use Rattle.board.specs.declared.calls.Answer.the-variants.{Accepted, Refused}
-use Rattle.board.specs.declared.calls.Refusal.{Refusal}
-use Rattle.board.specs.declared.calls.Refusal.the-variants.{BadSize, NotHeld, Short, Unsound, LittleWork, NumberZero, BadCount, OffBoard, NotRising, HeldAlready}
+use Rattle.answers.specs.Said.{code, said}
+use Rattle.answers.specs.declared.Answer.the-variants.{Accepted, Refused}
+use Rattle.answers.specs.declared.Refusal.{Refusal}
+use Rattle.answers.specs.declared.Refusal.the-variants.{BadSize, NotHeld, Short, Unsound, LittleWork, NumberZero, BadCount, OffBoard, NotRising, HeldAlready}
 use Rattle.board.specs.declared.words.Loose.{Loose}
 use Rattle.board.proofs.RowWalks.{is-true}
 use Rattle.board.proofs.WorkWords.{cleared-is, cleared-twice, clean-front}

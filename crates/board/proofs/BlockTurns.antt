@@ -6,7 +6,7 @@ use mathlib.Core.Bool.{Bool, true, false}
 use native.Mathlib.Omega.{arith}
 use native.Mathlib.Nat.{sub-zero, zero-add, add-zero}
 use lib.ListN.{length, take, drop, length-append}
-use lib.Seq.{sets, sets-eq, length-sets, take-append-seam}
+use lib.Seq.{sets, length-sets, take-append-seam}
 use borrow.Author.Tests.{le-leb, lt-leb}
 use Rattle.rules.specs.Runs.{State, Out, Item, spoilt, framed, handle, run}
 use Rattle.rules.specs.Blocks.{replyRoom, waiting, Portion, nothing, joined, lastPortion, ending, block}
@@ -15,18 +15,15 @@ use Rattle.rules.proofs.Streams.{block-line, block-full, block-rest, block-line
 use Rattle.rules.proofs.Replies.{handle-fits}
 use Rattle.rules.proofs.Days.{kept-by-lines}
 use Rattle.reading.specs.Ends.{lineEnd}
-use Rattle.writing.proofs.Texts.{sets-next}
-use Rattle.board.specs.declared.handling.Tally.{Tally}
+use Rattle.writing.proofs.Texts.{sets-start, sets-next}
+use Rattle.answers.specs.declared.Tally.{Tally}
 use Rattle.board.specs.declared.running.Block.{Block}
 use Rattle.board.specs.declared.replies.Placed.{Placed}
-use Rattle.board.specs.Handling.{stateOf}
+use Rattle.answers.specs.Handling.{stateOf}
 use Rattle.board.specs.Answering.{Answers}
 use Rattle.board.specs.Running.{Leaves}
 use Rattle.board.specs.Turning.{Left, todo, Turning}
 use Rattle.board.proofs.LineEnds.{line-ends, line-clean, line-length, line-split, rest-clean, rest-length}
-
-pub sets-start : (l a : List ℕ) → length a ≤ length l → sets l 0 a ≡ a ++ drop (length a) l
-sets-start l a h = sets-eq a l 0 (rw zero-add h) ∙ rw zero-add
 
 -- one line done: p is its answer o and then p′
 left-joined : (p p′ q : Portion) (i : Item) (o : Out) (out₀ out out₁ : List ℕ) (at n written end : ℕ) → p ≡ joined n i o p′ → end ≡ written + length (o .text) → out₁ ≡ sets out written (o .text)

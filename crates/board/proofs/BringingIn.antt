@@ -18,8 +18,8 @@ use Rattle.rules.proofs.CheckLaws.{held-none}
 use Rattle.rules.proofs.Decide.{in-board, finds, shuts}
 use Rattle.board.specs.Carry.{carried, Placing, Bringing, placed}
 use Rattle.board.specs.Queue.{queueWords, seen, Reaching, ReachIs}
-use Rattle.board.specs.Said.{said}
-use Rattle.board.specs.declared.calls.Answer.the-variants.{Accepted, Blocked}
+use Rattle.answers.specs.Said.{said}
+use Rattle.answers.specs.declared.Answer.the-variants.{Accepted, Blocked}
 use Rattle.board.specs.declared.words.Loose.{Loose}
 use Rattle.board.proofs.Showing.{filter-few}
 use Rattle.board.proofs.WorkWords.{cleared-twice, restored, shows, marks-are}

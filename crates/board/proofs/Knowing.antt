@@ -26,10 +26,10 @@ use Rattle.rules.proofs.Checks.{ready, fresh}
 use Rattle.rules.proofs.Replies.{inv-start, few-named, by-reading}
 use Rattle.rules.proofs.Steps.{Answered, does, refuses, answered, acts, acts-open}
 use Rattle.board.specs.Gates.{laterChecks, withdrawChecks, Knows, Swept, Tells}
-use Rattle.board.specs.Handling.{replyOf, stateOf, handledOf}
+use Rattle.answers.specs.Handling.{replyOf, stateOf, handledOf}
 use Rattle.board.specs.declared.gates.Known.{Known}
-use Rattle.board.specs.declared.handling.Handled.{Handled}
-use Rattle.board.specs.declared.handling.Tally.{Tally}
+use Rattle.answers.specs.declared.Handled.{Handled}
+use Rattle.answers.specs.declared.Tally.{Tally}
 use Rattle.board.proofs.Answers.{gate-facts}
 use Rattle.board.proofs.RowWalks.{no-true}
 use Rattle.board.proofs.WorkWords.{cleared-zero, length-cleared, length-front, after-list}

@@ -17,4 +17,3 @@ pub mod LineKinds
 pub mod ReplyTexts
 pub mod LineEnds
 pub mod BlockTurns
-pub mod Closing

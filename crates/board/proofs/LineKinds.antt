@@ -1,4 +1,4 @@
--- A line's handling: the tally, the reply to a call's answer, and each kind of line against `handleLine`.
+-- A line's handling: each kind of line against `handleLine`.
 use mathlib.Core.Bool.{Bool, true, false, not, _&&_, cond}
 use mathlib.Core.List.{List, [], _∷_}
 use mathlib.Core.Path.{_≡_, refl, sym, ap, ap₂, _∙_, subst}
@@ -10,61 +10,22 @@ use lib.Seq.{getD-take, getD-drop}
 use borrow.Author.Tests.{eq-eqb, ne-eqb}
 use Rattle.matching.specs.Lists.{all, any}
 use Rattle.matching.proofs.Counting.{and-l, and-r}
-use Rattle.rules.specs.Answers as A
-use Rattle.rules.specs.Calls.{Call, open-board, accept, withdraw, print, step}
+use Rattle.rules.specs.Calls.{open-board, accept, withdraw, print, step}
 use Rattle.rules.specs.Layout.{reads, row8}
 use Rattle.rules.specs.Lines.{letterS, letterA, letterW, letterP, isColumn, letterOf, columnCount, columnsFrom, mostBytes, allowed, wellFormed, values, lineRefusal, callOf}
 use Rattle.rules.specs.Runs as R
-use Rattle.rules.specs.Runs.{Counts, State, up, counted, unread, firstNumber, answered, handleLine}
+use Rattle.rules.specs.Runs.{State, unread, answered, handleLine}
 use Rattle.rules.proofs.WordLaws.{reads-is}
 use Rattle.reading.specs.declared.Kind.{Kind}
 use Rattle.reading.specs.declared.Kind.the-variants.{Open, Accept, Withdraw, Print}
 use Rattle.reading.specs.declared.Line.{Line}
 use Rattle.reading.specs.Reading.{kindRefusal, kindLetter, tenColumns, lineOf}
 use Rattle.reading.proofs.LineUses.{line-taken, kind-refusal, kind-letter, value-count, first-column, slot-row}
-use Rattle.board.specs.declared.calls.Answer.{Answer}
-use Rattle.board.specs.declared.handling.Handled.{Handled}
-use Rattle.board.specs.declared.handling.Tally.{Tally}
-use Rattle.board.specs.Handling.{countsOf, replyOf, stateOf, handledOf}
-use Rattle.board.specs.Replying.{Replies, OpensLine, LeavesUnread}
-use Rattle.board.specs.Said.{refusalOf, countOf, said}
-
--- ---- the tally and the reply
-
-abbrev counts : ℕ → ℕ → ℕ → Counts
-counts a b c = record { lines = a; accepted = b; refused = c }
-
-pub counted-yes : (ok : Bool) (t : Tally) (a b : ℕ) → ok ≡ true → a ≡ up (t .lines) → b ≡ up (t .accepted) → counts a b (t .refused) ≡ counted ok (countsOf t)
-counted-yes true t a b e p q = ap₂ (λ (x y : ℕ). counts x y (t .refused)) p q
-counted-yes false t a b e p q = absurd (let z : _≡_ {A = ℕ} 0 1 = cc in omega arith)
-
-pub counted-no : (ok : Bool) (t : Tally) (a b : ℕ) → ok ≡ false → a ≡ up (t .lines) → b ≡ up (t .refused) → counts a (t .accepted) b ≡ counted ok (countsOf t)
-counted-no true t a b e p q = absurd (let z : _≡_ {A = ℕ} 0 1 = cc in omega arith)
-counted-no false t a b e p q = ap₂ (λ (x y : ℕ). counts x (t .accepted) y) p q
-
-abbrev reply : ℕ → ℕ → ℕ → ℕ → A.Reply
-reply letter number refusal count = record { letter = letter; number = number; refusal = refusal; count = count }
-
-pub replies : (letter number : ℕ) (a : Answer) (t : Tally) (r : Handled) (refusal count : ℕ) → refusal ≡ refusalOf a → count ≡ countOf a
-    → replyOf (r .reply) ≡ reply letter number refusal count → countsOf (r .tally) ≡ counted (eqb refusal 0) (countsOf t) → Replies letter number (refusalOf a) (countOf a) t r
-replies letter number a t r refusal count e f p q = record {
-  reply = p ∙ ap₂ (reply letter number) e f;
-  tally = q ∙ ap (λ (k : ℕ). counted (eqb k 0) (countsOf t)) e;
-}
-
-abbrev handled : List ℕ → List ℕ → A.Reply → Counts → R.Handled
-handled b w p t = record { reply = p; state = record { board = b; work = w; tally = t } }
-
-pub leaves-unread : (refusal : ℕ) (t : Tally) (r : Handled) → replyOf (r .reply) ≡ reply A.letterX 0 refusal 0 → countsOf (r .tally) ≡ counted false (countsOf t) → LeavesUnread refusal t r
-leaves-unread refusal t r p q b w = ap₂ (handled b w) p q
-
--- the reply to the answer of the call q
-pub answers : (letter : ℕ) (vs : List ℕ) (q : Call) (a : Answer) (b w b′ w′ : List ℕ) (t : Tally) (number : ℕ) (r : Handled)
-    → said a b′ w′ ≡ step q b w → number ≡ firstNumber letter vs (said a b′ w′) → Replies letter number (refusalOf a) (countOf a) t r
-    → handledOf r b′ w′ ≡ answered letter vs (stateOf b w t) (step q b w)
-answers letter vs q a b w b′ w′ t number r e shown p =
-    ap₂ (handled b′ w′) (p .reply ∙ ap (λ (k : ℕ). reply letter k (refusalOf a) (countOf a)) shown) (p .tally)
-    ∙ ap (answered letter vs (stateOf b w t)) e
+use Rattle.answers.specs.declared.Handled.{Handled}
+use Rattle.answers.specs.declared.Tally.{Tally}
+use Rattle.answers.specs.Handling.{stateOf, handledOf}
+use Rattle.answers.specs.Replies.{LeavesUnread}
+use Rattle.board.specs.Replying.{OpensLine}
 
 -- ---- P shows the orders held, 0 if refused
 

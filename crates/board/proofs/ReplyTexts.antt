@@ -21,12 +21,13 @@ use Rattle.rules.proofs.TextLaws.{length-textLine}
 use Rattle.writing.specs.Storing.{Stores}
 use Rattle.writing.specs.Writing.{Puts, putText, endOf}
 use Rattle.writing.proofs.Texts.{sets-next, Joins, joins-all, joins-more, joins-room, joins-done}
-use Rattle.board.specs.declared.handling.Handled.{Handled}
-use Rattle.board.specs.declared.handling.Reply.{Reply}
-use Rattle.board.specs.declared.handling.Tally.{Tally}
+use Rattle.answers.specs.declared.Handled.{Handled}
+use Rattle.answers.specs.declared.Reply.{Reply}
+use Rattle.answers.specs.declared.Tally.{Tally}
 use Rattle.board.specs.Answering.{Answers}
-use Rattle.board.specs.Handling.{replyOf, stateOf, handledOf}
-use Rattle.board.specs.Replying.{LeavesUnread, SlotsRoom, ReplyRoom}
+use Rattle.answers.specs.Handling.{replyOf, stateOf, handledOf}
+use Rattle.answers.specs.Replies.{LeavesUnread}
+use Rattle.board.specs.Replying.{SlotsRoom, ReplyRoom}
 
 -- ---- texts in a room
 

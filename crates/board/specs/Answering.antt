@@ -7,7 +7,7 @@ use lib.ListN.{length}
 use lib.Seq.{sets}
 use Rattle.rules.specs.Runs.{Out}
 use Rattle.board.specs.declared.replies.Placed.{Placed}
-use Rattle.board.specs.Handling.{stateOf}
+use Rattle.answers.specs.Handling.{stateOf}
 
 pub record Answers (o : Out) (out : List ℕ) (at : ℕ) (r : Placed) (board′ work′ out′ : List ℕ) : Type 0 where
   pub end : r .end ≡ at + length (o .text)

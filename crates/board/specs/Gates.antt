@@ -11,7 +11,7 @@ use Rattle.rules.specs.Calls.{Check, first, boardChecks, orderChecks, isHeld}
 use Rattle.rules.specs.Layout.{size, word, workWords}
 use Rattle.rules.specs.Lines.{letterS}
 use Rattle.rules.proofs.CheckLaws.{Passed}
-use Rattle.board.specs.Said.{code}
+use Rattle.answers.specs.Said.{code}
 use Rattle.board.specs.declared.gates.Gate.{Gate}
 use Rattle.board.specs.declared.gates.Gate.the-variants.{Pass, Stop}
 use Rattle.board.specs.declared.gates.Known.{Known}

@@ -1,8 +1,6 @@
-pub mod Said
 pub mod Carry
 pub mod Gates
 pub mod Queue
-pub mod Handling
 pub mod Replying
 pub mod Answering
 pub mod Running

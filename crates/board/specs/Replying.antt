@@ -3,7 +3,6 @@
 use mathlib.Core.Path.{_≡_}
 use mathlib.Core.List.{List, [], _∷_}
 use Prim.Native.Nat.{ℕ, _+_, _≤_}
-use lib.Dec.{eqb}
 use lib.ListN.{length}
 use Rattle.rules.specs.Answers as A
 use Rattle.rules.specs.Calls.{step, open-board}
@@ -11,23 +10,14 @@ use Rattle.rules.specs.Layout.{mostSlots, boardWords}
 use Rattle.rules.specs.Lines.{letterS}
 use Rattle.rules.specs.Runs as R
 use Rattle.rules.proofs.CheckLaws.{Passed}
-use Rattle.board.specs.declared.handling.Handled.{Handled}
-use Rattle.board.specs.declared.handling.Reply.{Reply}
-use Rattle.board.specs.declared.handling.Tally.{Tally}
-use Rattle.board.specs.Handling.{countsOf, replyOf, stateOf, handledOf}
-
--- an answer as the reply to its line, and the tally after it
-pub record Replies (letter number refusal count : ℕ) (t : Tally) (r : Handled) : Type 0 where
-  pub reply : replyOf (r .reply) ≡ record { letter = letter; number = number; refusal = refusal; count = count }
-  pub tally : countsOf (r .tally) ≡ R.counted (eqb refusal 0) (countsOf t)
+use Rattle.answers.specs.declared.Handled.{Handled}
+use Rattle.answers.specs.declared.Reply.{Reply}
+use Rattle.answers.specs.declared.Tally.{Tally}
+use Rattle.answers.specs.Handling.{replyOf, stateOf, handledOf}
 
 -- opening leaves the work words, whatever they are
 abbrev pub OpensLine : ℕ → Tally → List ℕ → List ℕ → Handled → Type 0
 OpensLine n t before after r = (work : List ℕ) → handledOf r after work ≡ R.answered letterS (n ∷ []) (stateOf before work t) (step (open-board n) before work)
-
--- a line that is not read leaves board and work words, whatever they are
-abbrev pub LeavesUnread : ℕ → Tally → Handled → Type 0
-LeavesUnread refusal t r = (board work : List ℕ) → handledOf r board work ≡ R.unread refusal (stateOf board work t)
 
 -- room for the L lines of a board that has its words
 pub record SlotsRoom (board : List ℕ) (n : ℕ) (out : List ℕ) (at : ℕ) : Type 0 where

@@ -1,16 +1,14 @@
 -- What a block of lines answers and leaves.
 use Prim.Native.Nat.{ℕ, _+_, _≤_}
 use mathlib.Core.Path.{_≡_}
-use mathlib.Core.Bool.{Bool, true, cond}
-use mathlib.Core.List.{List, [], _∷_, _++_}
-use lib.Dec.{ltb}
+use mathlib.Core.Bool.{Bool, true}
+use mathlib.Core.List.{List, [], _++_}
 use lib.ListN.{length, take, drop}
-use Rattle.rules.specs.Runs.{State, items, linesFrom, run, before, tallyLine}
+use Rattle.rules.specs.Runs.{State, items, linesFrom, run, before}
 use Rattle.rules.specs.Blocks.{replyRoom, waiting, Portion, block}
 use Rattle.rules.specs.Days.{KeptByLines}
-use Rattle.board.specs.declared.handling.Tally.{Tally}
 use Rattle.board.specs.declared.running.Block.{Block}
-use Rattle.board.specs.Handling.{countsOf, stateOf}
+use Rattle.answers.specs.Handling.{stateOf}
 
 -- Of the input, the last of the file if `ended`, from the state s on, with the room `out`: the result r, and board, work words and room as they are then.
 -- p is what document 01's definitions say of this block.
@@ -35,9 +33,3 @@ pub record LeavesAs (p : Portion) (input : List ℕ) (ended : Bool) (s : State) 
 
 abbrev pub Leaves : List ℕ → Bool → State → List ℕ → Block → List ℕ → List ℕ → List ℕ → Type 0
 Leaves input ended s out r board′ work′ out′ = LeavesAs (block (length out) ended s input) input ended s out r board′ work′ out′
-
--- The N line goes to the start of a room that holds it; a smaller room stays, and 0 is answered.
-pub record Closes (t : Tally) (out : List ℕ) (r : ℕ) (out′ : List ℕ) : Type 0 where
-  pub written : r ≡ cond (ltb (length out) 32) 0 32
-  pub output : out′ ≡ cond (ltb (length out) 32) out (tallyLine (countsOf t) ++ drop 32 out)
-  pub fits : r ≤ length out

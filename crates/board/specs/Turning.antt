@@ -8,9 +8,9 @@ use lib.ListN.{length, drop}
 use lib.Seq.{sets}
 use Rattle.rules.specs.Runs.{State}
 use Rattle.rules.specs.Blocks.{Portion, block}
-use Rattle.board.specs.declared.handling.Tally.{Tally}
+use Rattle.answers.specs.declared.Tally.{Tally}
 use Rattle.board.specs.declared.running.Block.{Block}
-use Rattle.board.specs.Handling.{stateOf}
+use Rattle.answers.specs.Handling.{stateOf}
 use Rattle.board.specs.LineEnds.{LineEnd}
 use Rattle.board.specs.Running.{Leaves}
 

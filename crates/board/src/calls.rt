@@ -1,4 +1,4 @@
-// The four calls on a lent board, and the blocked slots after a 12.
+// The four calls on a lent board.
 ghost use mathlib.Core.Path.{_≡_};
 ghost use Prim.Native.Nat.{_≤_};
 ghost use lib.Dec.{T};
@@ -18,7 +18,7 @@ ghost use Rattle.rules.specs.Check.{passes};
 ghost use Rattle.rules.specs.Layout.{boardWords, mostChoices, row8};
 ghost use Rattle.board.specs.Carry.{InSlot, carried, Bringing, placed};
 ghost use Rattle.board.specs.Gates.{gateCode, laterChecks, Knows, Admitted};
-ghost use Rattle.board.specs.Said.{code, said, Opens};
+ghost use Rattle.answers.specs.Said.{code, said, Opens};
 ghost use Rattle.orders.specs.Verdict.{faultNumber};
 use crate::checking::is_held;
 use crate::gates::Gate;
@@ -39,30 +39,11 @@ use crate::words::number_at;
 use crate::words::put_free;
 use crate::words::put_label;
 use crate::words::put_opened;
+use answers::Answer;
+use answers::Refusal;
 use orders::Fault;
 use orders::Verdict;
 use orders::judge;
-
-// Each has its number in the paper's table by `code`; 12 is `Answer::Blocked`.
-pub enum Refusal {
-    BadSize,
-    Short,
-    Unsound,
-    LittleWork,
-    NumberZero,
-    BadCount,
-    OffBoard,
-    NotRising,
-    HeldAlready,
-    NotHeld,
-}
-
-// Accepted with a count; turned down; or no slot, with the count of blocked slots, which the work words begin with.
-pub enum Answer {
-    Accepted(u64),
-    Refused(Refusal),
-    Blocked(u16),
-}
 
 pub fn open_board(board: &mut [u16], n: u16) -> Answer
     ensures { λ r. ⌜ Opens n (now (board .entry)) (now (board .exit)) r ⌝ }
@@ -304,11 +285,4 @@ pub fn print(board: &[u16], work: &mut [u16]) -> Answer
 {
     let known = assess(board, work);
     print_known(board, work, known)
-}
-
-// The first s of the work words: after a 12 that counts s, the blocked slots.
-pub fn blocked(work: &[u16], s: usize) -> &[u16]
-    ensures { λ r. ⌜ now r ≡ take s (now (work .entry)) ⌝ }
-{
-    if s < work.len() { &work[..s] } else { work }
 }

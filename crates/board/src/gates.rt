@@ -8,7 +8,6 @@ ghost use Rattle.rules.specs.Calls.{boardChecks, first, shortFor, cleared};
 ghost use Rattle.rules.specs.Layout.{workWords};
 ghost use Rattle.rules.proofs.CheckLaws.{Passed};
 ghost use Rattle.board.specs.Gates.{gateCode, Clean, Unclean, Knows, Swept};
-use crate::calls::Refusal;
 use crate::checking::check;
 use crate::words::HEAD_WORDS;
 use crate::words::MOST_SLOTS;
@@ -16,6 +15,7 @@ use crate::words::SIZE;
 use crate::words::board_words;
 use crate::words::work_words;
 use crate::words::zero_range;
+use answers::Refusal;
 
 // Whether the checks let a call pass.
 pub(crate) enum Gate {

@@ -8,13 +8,11 @@ ghost use lib.ListN.{getD, take, drop};
 ghost use Rattle.rules.specs.Calls.{step, accept as acceptCall, withdraw as withdrawCall, print as printCall};
 ghost use Rattle.rules.specs.Layout.{heldCount};
 ghost use Rattle.rules.specs.Lines.{letterA, letterW, letterP};
-ghost use Rattle.rules.specs.Runs.{up, counted as countedOf, answered, handleLine};
-ghost use Rattle.board.specs.Said.{code, refusalOf, countOf};
-ghost use Rattle.board.specs.Handling.{countsOf, replyOf, stateOf, handledOf};
+ghost use Rattle.rules.specs.Runs.{answered, handleLine};
+ghost use Rattle.answers.specs.Said.{refusalOf};
+ghost use Rattle.answers.specs.Handling.{replyOf, stateOf, handledOf};
 ghost use Rattle.board.specs.Gates.{Knows, Tells};
-ghost use Rattle.board.specs.Replying.{Replies, OpensLine, LeavesUnread};
-use crate::calls::Answer;
-use crate::calls::Refusal;
+ghost use Rattle.board.specs.Replying.{OpensLine};
 use crate::calls::accept_known;
 use crate::calls::open_board;
 use crate::calls::print_known;
@@ -25,121 +23,15 @@ use crate::gates::known_opened;
 use crate::gates::known_swept;
 use crate::words::HEAD_WORDS;
 use crate::words::HELD;
+use answers::Answer;
+use answers::Handled;
+use answers::Reply;
+use answers::Tally;
+use answers::refusal_of;
+use answers::replied;
+use answers::unread_line;
 use reading::Kind;
 use reading::read_line;
-
-// Lines, accepted ones and refused ones; each count stops at 4,294,967,295.
-pub struct Tally {
-    pub lines: u32,
-    pub accepted: u32,
-    pub refused: u32,
-}
-
-// What an answer line shows.
-pub struct Reply {
-    pub letter: u8,
-    pub number: u16,
-    pub refusal: u16,
-    pub count: u64,
-}
-
-pub struct Handled {
-    pub reply: Reply,
-    pub tally: Tally,
-}
-
-fn up_one(n: u32) -> u32
-    ensures { λ r. ⌜ r ≡ up n ⌝ }
-{
-    if n < 4294967295 { n + 1 } else { n }
-}
-
-// The tally after one more line.
-fn counted(t: Tally, ok: bool) -> Tally
-    ensures { λ r. ⌜ countsOf r ≡ countedOf ok (countsOf t) ⌝ }
-{
-    let lines = up_one(t.lines);
-    if ok {
-        return Tally {
-            lines,
-            accepted: up_one(t.accepted),
-            refused: t.refused,
-        };
-    }
-    Tally {
-        lines,
-        accepted: t.accepted,
-        refused: up_one(t.refused),
-    }
-}
-
-// The number of the table.
-fn refusal_number(r: Refusal) -> u16
-    ensures { λ n. ⌜ n ≡ code r ⌝ }
-{
-    match r {
-        Refusal::BadSize => 3,
-        Refusal::Short => 4,
-        Refusal::Unsound => 5,
-        Refusal::LittleWork => 6,
-        Refusal::NumberZero => 7,
-        Refusal::BadCount => 8,
-        Refusal::OffBoard => 9,
-        Refusal::NotRising => 10,
-        Refusal::HeldAlready => 11,
-        Refusal::NotHeld => 13,
-    }
-}
-
-fn refusal_of(a: Answer) -> u16
-    ensures { λ n. ⌜ n ≡ refusalOf a ⌝ }
-{
-    match a {
-        Answer::Accepted(k) => 0,
-        Answer::Refused(r) => refusal_number(r),
-        Answer::Blocked(s) => 12,
-    }
-}
-
-fn count_of(a: Answer) -> u64
-    ensures { λ n. ⌜ n ≡ countOf a ⌝ }
-{
-    match a {
-        Answer::Accepted(k) => k,
-        Answer::Refused(r) => 0,
-        Answer::Blocked(s) => s as u64,
-    }
-}
-
-// A call's answer as the line's reply.
-fn replied(letter: u8, number: u16, a: Answer, t: Tally) -> Handled
-    ensures { λ r. ⌜ Replies letter number (refusalOf a) (countOf a) t r ⌝ }
-{
-    let refusal = refusal_of(a);
-    let count = count_of(a);
-    let reply = Reply {
-        letter,
-        number,
-        refusal,
-        count,
-    };
-    let tally = counted(t, refusal == 0);
-    Handled { reply, tally }
-}
-
-// A line that was not read: X, and the refusal.
-pub(crate) fn unread_line(refusal: u16, t: Tally) -> Handled
-    ensures { λ r. ⌜ LeavesUnread refusal t r ⌝ }
-{
-    let reply = Reply {
-        letter: b'X',
-        number: 0,
-        refusal,
-        count: 0,
-    };
-    let tally = counted(t, false);
-    Handled { reply, tally }
-}
 
 fn open_line(n: u16, board: &mut [u16], t: Tally) -> Handled
     ensures { λ r. ⌜ OpensLine n t (now (board .entry)) (now (board .exit)) r ⌝ }

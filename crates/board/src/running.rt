@@ -1,16 +1,15 @@
-// A block of input lines, handled as far as the room for their answers surely reaches, and the N line at the end.
+// A block of input lines, handled as far as the room for their answers surely reaches.
 ghost use mathlib.Core.Path.{_≡_};
 ghost use Prim.Native.Nat.{_≤_};
 ghost use lib.ListN.{length};
-ghost use Rattle.board.specs.Handling.{stateOf};
-ghost use Rattle.board.specs.Running.{Leaves, Closes};
+ghost use Rattle.answers.specs.Handling.{stateOf};
+ghost use Rattle.board.specs.Running.{Leaves};
 ghost use Rattle.board.specs.Turning.{Finishes};
 use crate::gates::assess_if;
-use crate::handling::Tally;
 use crate::replies::answer_line;
 use crate::replies::answer_spoilt;
+use answers::Tally;
 use reading::line_end;
-use writing::put_answer;
 
 // No answer with the lines that follow it is longer.
 const REPLY_ROOM: usize = 32800;
@@ -88,14 +87,4 @@ pub fn run_block(
         e = line_end(input, at);
     }
     finish(ended, at, e, written, t, out)
-}
-
-// The N line.
-pub fn close(t: Tally, out: &mut [u8]) -> usize
-    ensures { λ r. ⌜ Closes t (now (out .entry)) r (now (out .exit)) ⌝ }
-{
-    let lines = t.lines as u64;
-    let accepted = t.accepted as u64;
-    let refused = t.refused as u64;
-    put_answer(out, 0, b'N', [lines, accepted, refused, 0, 0, 0, 0, 0], 3)
 }

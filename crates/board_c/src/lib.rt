@@ -1,9 +1,7 @@
 // The board for programs in C: numbers and slices only. The benchmark links it.
 ghost use mathlib.Core.Path.{_≡_};
-ghost use lib.ListN.{take};
 ghost use Rattle.matching.specs.Lists.{indicator};
 ghost use Rattle.rules.specs.Check.{passes};
-ghost use Rattle.rules.specs.Layout.{row8};
 ghost use Rattle.board_c.specs.Exported.{Accepts};
 use board::Answer;
 

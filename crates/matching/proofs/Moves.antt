@@ -1,17 +1,15 @@
 -- The search: each move keeps the board good and raises the sum of its labels; what is accepted is held, and what is refused reaches full slots only.
 use mathlib.Core.Path.{_≡_, refl, sym, ap, _∙_, subst}
-use mathlib.Core.Bool.{Bool, true, false, not, cond}
 use mathlib.Core.Logic.{_⊎_, inl, inr, _≢_}
-use mathlib.Core.List.{List, [], _∷_, map, List·Memᴰ as Mem, List·Memᴰ·head as here, List·Memᴰ·tail as there, List·Memᴰ·not-nil, List·Memᴰ·eq-of-singleton, Memᴰ·cast}
-use Prim.Native.Nat.{ℕ, zero, suc, _+_, _*_, _≤_, _<_}
+use mathlib.Core.List.{List, [], _∷_, List·Memᴰ as Mem, List·Memᴰ·head as here, List·Memᴰ·tail as there, List·Memᴰ·eq-of-singleton, Memᴰ·cast}
+use Prim.Native.Nat.{ℕ, suc, _+_, _*_, _≤_, _<_}
 use native.Mathlib.Omega.{arith}
 use native.Mathlib.Decide.{ℕ-discrete}
-use native.Mathlib.Nat.{mul-le-mul-left}
 use lib.ListN.{length}
-use lib.Dec.{T, eqb, leb, leb→le, nleb→lt}
-use Rattle.matching.specs.Lists.{indicator, slots, rising}
+use lib.Dec.{T}
+use Rattle.matching.specs.Lists.{slots, rising}
 use Rattle.matching.specs.Orders.{Order, openSlots, Seat, seat, Board, seats}
-use Rattle.matching.specs.Placing.{pick, newLabel, accepted, refused, into, after}
+use Rattle.matching.specs.Placing.{pick, newLabel}
 use Rattle.matching.proofs.Counting.{length-slots}
 use Rattle.matching.proofs.Pick.{pick-member, pick-le, newLabel-le, newLabel-at, newLabel-gt}
 use Rattle.matching.proofs.Seated.{seat-in, of-seat}

@@ -1,11 +1,11 @@
 -- A plan, which is a function from orders to slots, against a plan as a list of seats: each gives the other where no number stands twice.
 use mathlib.Core.Path.{_≡_, refl, sym, ap, _∙_, subst}
-use mathlib.Core.Bool.{Bool, true, false, not, cond}
+use mathlib.Core.Bool.{Bool, not, cond}
 use mathlib.Core.Logic.{_⊎_, inl, inr}
-use mathlib.Core.List.{List, [], _∷_, _++_, map, List·Memᴰ as Mem, List·Memᴰ·head as here, List·Memᴰ·tail as there, Memᴰ·of-map}
-use Prim.Native.Nat.{ℕ, zero, suc, _+_, _≤_, _<_}
+use mathlib.Core.List.{List, [], _∷_, map, List·Memᴰ as Mem, List·Memᴰ·head as here, List·Memᴰ·tail as there, Memᴰ·of-map}
+use Prim.Native.Nat.{ℕ, _≤_}
 use native.Mathlib.Omega.{arith}
-use lib.Dec.{T, eqb, eqb→eq, eqb-refl, not-T, T-not}
+use lib.Dec.{T, eqb, eqb-refl, not-T, T-not}
 use Rattle.matching.specs.Lists.{countIf, member, all}
 use Rattle.matching.specs.Orders.{Order, openSlots, Seat, seat, SameOrders, orders, sameNumber, Plan}
 use Rattle.matching.proofs.Counting.{indicator-of, dec-T, cond-yes, cond-no, countIf-map, countIf-mono, countIf-none, member-of, of-member}

@@ -1,8 +1,8 @@
 -- The whole search, by induction on the turns left: what it accepts is held, what it refuses reaches full slots only, and n * n + 1 turns are enough.
 use mathlib.Core.Path.{_≡_, refl, sym, ap, _∙_, subst}
-use mathlib.Core.Bool.{Bool, true, false, not, cond}
+use mathlib.Core.Bool.{Bool, not, cond}
 use mathlib.Core.Logic.{_⊎_, inl, inr, _≢_}
-use mathlib.Core.List.{List, [], _∷_, map, List·Memᴰ as Mem, List·Memᴰ·head as here, List·Memᴰ·tail as there, List·Memᴰ·not-nil}
+use mathlib.Core.List.{List, [], _∷_, map, List·Memᴰ as Mem, List·Memᴰ·head as here}
 use Prim.Native.Nat.{ℕ, zero, suc, _+_, _*_, _≤_, _<_}
 use native.Mathlib.Omega.{arith}
 use native.Mathlib.Decide.{ℕ-discrete}

@@ -1,6 +1,6 @@
 -- Laws of where a line ends: at a line feed, past another byte, behind the last byte; and what that says of the bytes before it.
 use Prim.Native.Nat.{ℕ, zero, suc, _+_, _≤_, _<_}
-use mathlib.Core.Path.{_≡_, refl, sym, ap, _∙_}
+use mathlib.Core.Path.{_≡_, sym, ap, _∙_}
 use mathlib.Core.List.{List, [], _∷_}
 use mathlib.Core.Bool.{false}
 use native.Mathlib.Omega.{arith}

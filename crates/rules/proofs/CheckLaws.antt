@@ -1,13 +1,13 @@
 -- The check's tests and what they say of the view.
 use mathlib.Core.Path.{_≡_, refl, sym, ap, _∙_, subst}
-use mathlib.Core.Bool.{Bool, true, false, not, _&&_, _||_, cond}
-use mathlib.Core.Logic.{_⊎_, inl, inr, _≢_}
-use mathlib.Core.List.{List, [], _∷_, _++_, List·Memᴰ as Mem, List·Memᴰ·head as here, List·Memᴰ·tail as there, List·Memᴰ·not-nil, List·Memᴰ·eq-of-singleton}
+use mathlib.Core.Bool.{Bool, not, _||_, cond}
+use mathlib.Core.Logic.{_⊎_, inl, inr}
+use mathlib.Core.List.{List, [], _∷_, List·Memᴰ as Mem, List·Memᴰ·head as here, List·Memᴰ·tail as there, List·Memᴰ·not-nil, List·Memᴰ·eq-of-singleton}
 use Prim.Native.Nat.{ℕ, zero, suc, _+_, _-_, _*_, _≤_, _<_, min}
 use native.Mathlib.Omega.{arith}
 use native.Mathlib.Decide.{decLe}
-use lib.Dec.{T, eqb, leb, ltb, eqb→eq, eqb-refl, leb→le, le→leb, ltb→lt, lt→ltb, not-T, T-not}
-use lib.ListN.{length, getD, take, drop, replicate, length-take}
+use lib.Dec.{T, eqb, leb, eqb→eq, eqb-refl, leb→le, le→leb, not-T, T-not}
+use lib.ListN.{length, take, drop, length-take}
 use Rattle.matching.specs.Lists.{countIf, member, slots, rising, all}
 use Rattle.matching.specs.Orders.{Order, openSlots, sameNumber}
 use Rattle.matching.proofs.Counting.{indicator-none, member-of, of-member, and-l, and-r, and-i, or-r, or-cases, dec-T, cond-yes, cond-no}

@@ -1,13 +1,12 @@
 -- Each call keeps board and ledger in step.
 use mathlib.Core.Path.{_≡_, refl, sym, ap, _∙_, subst}
-use mathlib.Core.Bool.{Bool, true, false, not, _&&_, _||_, cond}
-use mathlib.Core.Logic.{_⊎_, inl, inr, _≢_, ⊎-elim}
-use mathlib.Core.List.{List, [], _∷_, _++_, List·Memᴰ as Mem, List·Memᴰ·head as here, List·Memᴰ·tail as there}
-use Prim.Native.Nat.{ℕ, zero, suc, _+_, _-_, _*_, _≤_, _<_}
+use mathlib.Core.Bool.{Bool, true, false, not, _&&_, cond}
+use mathlib.Core.Logic.{_⊎_, inl, inr, _≢_}
+use mathlib.Core.List.{List, _∷_, List·Memᴰ·head as here, List·Memᴰ·tail as there}
+use Prim.Native.Nat.{ℕ, _+_, _-_, _≤_}
 use native.Mathlib.Omega.{arith}
-use lib.Dec.{T, eqb, leb, ltb, eqb→eq, eqb-refl, leb→le, le→leb, ltb→lt, nltb→le, not-T, T-not}
-use lib.ListN.{length, take, drop, replicate, set, length-take}
-use lib.Seq.{take-append-seam}
+use lib.Dec.{T, eqb, leb, ltb, eqb→eq, eqb-refl, leb→le, nltb→le, not-T, T-not}
+use lib.ListN.{length, take}
 use Rattle.matching.specs.Lists.{indicator, all}
 use Rattle.matching.specs.Orders.{Order, SameOrders, orders, sameNumber}
 use Rattle.matching.specs.Placing.{Result, accepted, refused, unfinished, place}

@@ -2,7 +2,7 @@
 use mathlib.Core.Path.{_≡_, refl, sym, ap, _∙_, subst}
 use mathlib.Core.Bool.{Bool, true, false, not, _&&_, cond}
 use mathlib.Core.Logic.{_⊎_, inl, inr, _≢_}
-use mathlib.Core.List.{List, [], _∷_, _++_, map, List·Memᴰ as Mem, List·Memᴰ·head as here, List·Memᴰ·tail as there}
+use mathlib.Core.List.{List, [], _∷_, map, List·Memᴰ as Mem, List·Memᴰ·head as here, List·Memᴰ·tail as there}
 use Prim.Native.Nat.{ℕ, zero, suc, _+_, _-_, _*_, _≤_, _<_}
 use native.Mathlib.Omega.{arith}
 use native.Mathlib.Decide.{ℕ-discrete}

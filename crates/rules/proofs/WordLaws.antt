@@ -1,13 +1,13 @@
 -- Writing an order into a slot, as the view sees it.
-use mathlib.Core.Path.{_≡_, refl, sym, ap, _∙_, subst}
-use mathlib.Core.Bool.{Bool, true, false, not, cond}
+use mathlib.Core.Path.{_≡_, refl, ap, _∙_, subst}
+use mathlib.Core.Bool.{not, cond}
 use mathlib.Core.Logic.{_⊎_, inl, inr, _≢_}
 use mathlib.Core.List.{List, [], _∷_, _++_, List·Memᴰ as Mem}
-use Prim.Native.Nat.{ℕ, zero, suc, _+_, _-_, _*_, _≤_, _<_, min}
+use Prim.Native.Nat.{ℕ, zero, suc, _+_, _-_, _≤_, _<_}
 use native.Mathlib.Omega.{arith}
 use native.Mathlib.Decide.{decLt}
 use lib.Dec.{T, eqb, eqb→eq, not-T}
-use lib.ListN.{length, getD, take, drop, replicate, set, length-set, length-append, length-take, length-replicate}
+use lib.ListN.{length, getD, take, replicate, set, length-set, length-append, length-take}
 use lib.Seq.{sets, length-sets, getD-set-same, getD-set-other, take-take, take-append-seam, length-take-le, take-at}
 use Rattle.matching.specs.Lists.{slots}
 use Rattle.matching.specs.Orders.{Order, openSlots}

@@ -10,9 +10,9 @@ use lib.ListN.{length, getD, take, drop, set, length-drop}
 use lib.Seq.{take-suc, take-suc-set, drop-set-lt, drop-drop, getD-drop, take-all}
 use Rattle.rules.specs.Runs.{State, Out, items, run}
 use Rattle.rules.specs.Blocks.{replyRoom}
-use Rattle.board.specs.declared.handling.Tally.{Tally}
+use Rattle.answers.specs.declared.Tally.{Tally}
 use Rattle.board.specs.declared.running.Block.{Block}
-use Rattle.board.specs.Handling.{stateOf}
+use Rattle.answers.specs.Handling.{stateOf}
 use Rattle.board.specs.Running.{Leaves}
 use Rattle.slotboard.specs.Serving.{WorkedOff}
 

@@ -2,7 +2,7 @@
 ghost use Prim.Native.Nat.{_+_, _≤_, _<_};
 ghost use lib.ListN.{length};
 ghost use Rattle.rules.specs.Blocks.{replyRoom, waiting};
-ghost use Rattle.board.specs.Handling.{stateOf};
+ghost use Rattle.answers.specs.Handling.{stateOf};
 ghost use Rattle.slotboard.specs.Serving.{WorkedOff, Moved};
 use board::Tally;
 use board::close;

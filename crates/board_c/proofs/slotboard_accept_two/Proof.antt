@@ -1,13 +1,13 @@
 -- `board_c::slotboard_accept_two` meets its contract: of the call's answer the count that a 12 gives.
-use mathlib.Core.List.{List, [], _∷_}
+use mathlib.Core.List.{List}
 use mathlib.Core.Path.{_≡_, refl, sym, ap, _∙_}
 use mathlib.Core.Bool.{Bool, true, false, cond}
 use Prim.Native.Nat.{ℕ}
 use lib.Dec.{eqb}
 use borrow.Author.Needs.{needs}
 use Rattle.rules.specs.Calls as Calls
-use Rattle.board.specs.Said.{code, said}
-use Rattle.board.specs.declared.calls.Answer.{Answer}
+use Rattle.answers.specs.Said.{code, said}
+use Rattle.answers.specs.declared.Answer.{Answer}
 use Rattle.board_c.specs.Exported.{blockedCount}
 use Rattle.board_c.proofs.slotboard_accept_two.Statement.{statement}
 use Rattle.board_c.proofs.slotboard_accept_two.Tie as tie

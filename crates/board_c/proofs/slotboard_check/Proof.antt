@@ -1,5 +1,5 @@
 -- `board_c::slotboard_check` meets its contract: the test's answer as a number.
-use mathlib.Core.Path.{_≡_, sym, ap, _∙_}
+use mathlib.Core.Path.{sym, ap, _∙_}
 use borrow.Author.Needs.{needs}
 use Rattle.matching.specs.Lists.{indicator}
 use Rattle.board_c.proofs.slotboard_check.Statement.{statement}

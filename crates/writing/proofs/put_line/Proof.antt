@@ -3,7 +3,6 @@ use Prim.Native.Nat.{_+_, _-_, _≤_}
 use mathlib.Core.Path.{_∙_}
 use native.Mathlib.Omega.{arith}
 use lib.ListN.{length, drop, length-set}
-use Rattle.rules.specs.Text.{columns}
 use Rattle.rules.proofs.TextLaws.{length-textLine}
 use borrow.Author.Needs.{needs}
 use Rattle.writing.proofs.Texts.{Joins, joins-all, ending, line-room, feed-room, line-same, line-more, line-done}

@@ -8,7 +8,7 @@ use borrow.Author.Tests.{le-leb, lt-leb}
 use Rattle.rules.specs.Calls.{shortFor, first}
 use Rattle.rules.specs.Check.{goodSize}
 use Rattle.rules.specs.Layout.{mostSlots}
-use Rattle.board.specs.declared.calls.Refusal.the-variants.{BadSize, Short}
+use Rattle.answers.specs.declared.Refusal.the-variants.{BadSize, Short}
 use Rattle.board.proofs.Answers.{open-stop, open-is}
 use Rattle.board.proofs.Releasing.{long-enough}
 use Rattle.board.proofs.calls.open_board.Statement.{statement}

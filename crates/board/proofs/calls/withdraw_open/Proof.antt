@@ -13,7 +13,7 @@ use Rattle.rules.specs.Layout.{word}
 use Rattle.rules.proofs.CheckLaws.{Passed, passed-of}
 use Rattle.board.specs.Carry.{heldOn}
 use Rattle.board.specs.Gates.{withdrawChecks}
-use Rattle.board.specs.declared.calls.Refusal.the-variants.{NumberZero, NotHeld}
+use Rattle.answers.specs.declared.Refusal.the-variants.{NumberZero, NotHeld}
 use Rattle.board.proofs.Answers.{stop-late, to-more, gate-facts, withdraw-is}
 use Rattle.board.proofs.HeldOrders.{any-some}
 use Rattle.board.proofs.calls.withdraw_open.Statement.{statement}

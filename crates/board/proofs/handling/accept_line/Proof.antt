@@ -3,7 +3,7 @@ use Prim.Native.Nat.{_-_}
 use lib.ListN.{getD, take, drop}
 use borrow.Author.Needs.{needs}
 use Rattle.rules.specs.Calls.{accept, step}
-use Rattle.board.proofs.LineKinds.{answers}
+use Rattle.answers.proofs.ReplyLaws.{answers}
 use Rattle.board.proofs.handling.accept_line.Statement.{statement}
 use Rattle.board.proofs.handling.accept_line.Tie as tie
 

@@ -1,5 +1,5 @@
 use borrow.Author.Needs.{needs}
-use Rattle.board.specs.Said.{refusalOf}
+use Rattle.answers.specs.Said.{refusalOf}
 use Rattle.board.proofs.LineKinds.{shown-none, shown-held, shown-short}
 use Rattle.board.proofs.handling.held_shown.Statement.{statement}
 use Rattle.board.proofs.handling.held_shown.Tie as tie

@@ -2,7 +2,7 @@ use mathlib.Core.List.{[], _∷_}
 use mathlib.Core.Path.{refl}
 use borrow.Author.Needs.{needs}
 use Rattle.rules.specs.Calls.{open-board}
-use Rattle.board.proofs.LineKinds.{answers}
+use Rattle.answers.proofs.ReplyLaws.{answers}
 use Rattle.board.proofs.handling.open_line.Statement.{statement}
 use Rattle.board.proofs.handling.open_line.Tie as tie
 

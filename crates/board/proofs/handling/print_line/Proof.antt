@@ -1,7 +1,7 @@
 use mathlib.Core.List.{[]}
 use borrow.Author.Needs.{needs}
 use Rattle.rules.specs.Calls.{print}
-use Rattle.board.proofs.LineKinds.{answers}
+use Rattle.answers.proofs.ReplyLaws.{answers}
 use Rattle.board.proofs.handling.print_line.Statement.{statement}
 use Rattle.board.proofs.handling.print_line.Tie as tie
 

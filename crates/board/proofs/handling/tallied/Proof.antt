@@ -42,17 +42,17 @@ use denote.Triple.Table.{entered, cited}
 use denote.Triple.Walked.{says, Stays, stay-none, stay-none-slice, gave-slice, walkOf, AllGo, goes-none, goes-none-slice, goes-gave-slice, Walks, ends-at, walked, walk-meets}
 use denote.Triple.Clauses.{ensured, lasts}
 use denote.Exit.{yes}
-use Rattle.board.specs.declared.handling.Tally.{Tally}
-use Rattle.board.specs.declared.handling.Reply.{Reply}
-use Rattle.board.specs.declared.handling.Handled.{Handled}
+use Rattle.answers.specs.declared.Tally.{Tally}
+use Rattle.answers.specs.declared.Reply.{Reply}
+use Rattle.answers.specs.declared.Handled.{Handled}
 use Rattle.rules.specs.Runs.{handleLine}
-use Rattle.board.specs.Handling.{stateOf, handledOf}
-use Rattle.board.proofs.handling.Tally as T
-use Rattle.board.proofs.handling.Tally.Laws as T′
-use Rattle.board.proofs.handling.Reply as R
-use Rattle.board.proofs.handling.Reply.Laws as R′
-use Rattle.board.proofs.handling.Handled as S
-use Rattle.board.proofs.handling.Handled.Laws as S′
+use Rattle.answers.specs.Handling.{stateOf, handledOf}
+use Rattle.answers.proofs.Tally as T
+use Rattle.answers.proofs.Tally.Laws as T′
+use Rattle.answers.proofs.Reply as R
+use Rattle.answers.proofs.Reply.Laws as R′
+use Rattle.answers.proofs.Handled as S
+use Rattle.answers.proofs.Handled.Laws as S′
 use Rattle.board.proofs.handling.handle_line as callee
 use Rattle.board.proofs.handling.handle_line.Symbol as callee-def
 use Rattle.board.proofs.handling.handle_line.Symbol.{name as #board·handle-line}

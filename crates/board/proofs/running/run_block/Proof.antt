@@ -6,7 +6,7 @@ use lib.ListN.{length}
 use borrow.Author.Needs.{needs}
 use borrow.Author.Tests.{lt-ltb}
 use Rattle.board.specs.Gates.{Knows}
-use Rattle.board.specs.Handling.{stateOf}
+use Rattle.answers.specs.Handling.{stateOf}
 use Rattle.board.specs.Turning.{Turning}
 use Rattle.board.proofs.BlockTurns.{start, turn, no-room-left}
 use Rattle.board.proofs.running.run_block.Statement.{statement}

@@ -1,8 +1,8 @@
 use mathlib.Core.Path.{refl}
 use borrow.Author.Needs.{needs}
-use Rattle.board.proofs.LineKinds.{replies}
-use Rattle.board.proofs.handling.replied.Statement.{statement}
-use Rattle.board.proofs.handling.replied.Tie as tie
+use Rattle.answers.proofs.ReplyLaws.{replies}
+use Rattle.answers.proofs.replied.Statement.{statement}
+use Rattle.answers.proofs.replied.Tie as tie
 
 refusal-of-requires : tie.Need-refusal-of-requires
 refusal-of-requires c κs = search needs
