@@ -191,23 +191,3 @@ pub fn handle(line: &[u8], board: &mut [u16], work: &mut [u16], tally: Tally) ->
     let known = assess(board, work);
     handle_known(line, board, work, tally, known)
 }
-
-// The same with the day's tally lent: it is brought up to date.
-pub fn handle_line(line: &[u8], board: &mut [u16], work: &mut [u16], tally: &mut Tally) -> Reply
-    ensures { λ r. ⌜ handledOf (record { reply = r; tally = now (tally .exit) }) (now (board .exit)) (now (work .exit))
-        ≡ handleLine (now (line .entry)) (stateOf (now (board .entry)) (now (work .entry)) (now (tally .entry))) ⌝ }
-{
-    let h = handle(line, board, work, *tally);
-    *tally = h.tally;
-    h.reply
-}
-
-// The same for a caller that has the tally by value: its copy is lent and handed back.
-pub fn tallied(line: &[u8], board: &mut [u16], work: &mut [u16], tally: Tally) -> Handled
-    ensures { λ r. ⌜ handledOf r (now (board .exit)) (now (work .exit))
-        ≡ handleLine (now (line .entry)) (stateOf (now (board .entry)) (now (work .entry)) tally) ⌝ }
-{
-    let mut day = tally;
-    let reply = handle_line(line, board, work, &mut day);
-    Handled { reply, tally: day }
-}

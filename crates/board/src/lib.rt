@@ -22,7 +22,5 @@ pub use calls::print;
 pub use calls::withdraw;
 pub use checking::check;
 pub use handling::handle;
-pub use handling::handle_line;
-pub use handling::tallied;
 pub use running::Block;
 pub use running::run_block;

@@ -5,7 +5,7 @@ ghost use lib.ListN.{length};
 use board::Tally;
 use board::close;
 use board::run_block;
-use board::tallied;
+use day::tallied;
 use libc::STDIN_FILENO;
 use libc::STDOUT_FILENO;
 use trial_words::fill_marks;

@@ -1,4 +1,4 @@
--- `board::handling::tallied` meets its contract: a walk of its MIR, by hand. The tally is copied into a local that is lent to `handle_line` for a lifetime of the call,
+-- `day::tallied` meets its contract: a walk of its MIR, by hand. The tally is copied into a local that is lent to `handle_line` for a lifetime of the call,
 -- and comes back at the last value that its contract says; board and work words go to it for good; the line's slice is Copy. Assumes nothing.
 use mathlib.Core.Path.{_≡_, refl, ap}
 use Prim.Native.Nat.{ℕ}
@@ -53,14 +53,14 @@ use Rattle.answers.proofs.Reply as R
 use Rattle.answers.proofs.Reply.Laws as R′
 use Rattle.answers.proofs.Handled as S
 use Rattle.answers.proofs.Handled.Laws as S′
-use Rattle.board.proofs.handling.handle_line as callee
-use Rattle.board.proofs.handling.handle_line.Symbol as callee-def
-use Rattle.board.proofs.handling.handle_line.Symbol.{name as #board·handle-line}
-use Rattle.board.proofs.handling.handle_line.Met as callee-thm
-use Rattle.board.proofs.handling.tallied.Key.{name as #board·tallied}
-use Rattle.board.proofs.handling.tallied as self
-use Rattle.board.proofs.handling.tallied.Statement as stated
-use Rattle.board.proofs.handling.tallied.Code as code
+use Rattle.day.proofs.handle_line as callee
+use Rattle.day.proofs.handle_line.Symbol as callee-def
+use Rattle.day.proofs.handle_line.Symbol.{name as #day·handle-line}
+use Rattle.day.proofs.handle_line.Met as callee-thm
+use Rattle.day.proofs.tallied.Key.{name as #day·tallied}
+use Rattle.day.proofs.tallied as self
+use Rattle.day.proofs.tallied.Statement as stated
+use Rattle.day.proofs.tallied.Code as code
 
 abbrev stayed : Stays (self.ended .signature .params) (self.ended .kept)
 stayed = (stay-none-slice (0 ∷ []) tt (plain (λ _. u8)) yes, (gave-slice (1 ∷ []) tt (plain (λ _. u16)), (gave-slice (2 ∷ []) tt (plain (λ _. u16)), (stay-none (λ _. T.the-row) yes, tt))))
@@ -165,7 +165,7 @@ module _ {M : Type 1} (𝓤 : URA M) (H : Heap 𝓤) (A : Atoms 𝓤) (W : Given
       owned ! S.the-row (Is S.the-row) (LL.makes S.the-type S′.the-plain 𝓤 H A) (made r w) _ (LL.owes S.the-type S′.the-laws (made r w) (out, (was, tt))) $
       nothing ! $ move ! (3 ∷ 0 ∷ []) $ join ! $ move ! (3 ∷ 0 ∷ []) $ join ! $ move ! (3 ∷ 0 ∷ []) $ join ! $ move ! (0 ∷ 2 ∷ 1 ∷ []) $ done !
 
-  module _ (C : Calls 𝓤 H) (Λ : Loops 𝓤 H) (fm : FmC 𝓤 H (W .laws) C) (known : Triple 𝓤 (C #board·handle-line) (Callee 𝓤 H A at-mem run)) where
+  module _ (C : Calls 𝓤 H) (Λ : Loops 𝓤 H) (fm : FmC 𝓤 H (W .laws) C) (known : Triple 𝓤 (C #day·handle-line) (Callee 𝓤 H A at-mem run)) where
     walk : Is (ShrSlice (named 0) κ₁ u8) x₁ (s₁ ∷ []) → Room u16 (length ys₂) → Room u16 (length ys₃) → Is T.the-row h (mach ∷ []) → Holds (hasTy T′.mir mach) × WT mach
         → ent 𝓤 (onEntry 𝓤 H A self.signature (κ₁, (κ₂, (κ₃, tt))) (q₁, (q₂, (q₃, tt))) a at) (WpFn 𝓤 H C Λ code.function (s₁ ∷ s₂ ∷ s₃ ∷ mach ∷ []) Post)
     walk line-is room₂ room₃ was wt =
@@ -209,7 +209,7 @@ module _ {M : Type 1} (𝓤 : URA M) (H : Heap 𝓤) (A : Atoms 𝓤) (W : Given
         keep ! (2 ∷ 3 ∷ 4 ∷ 7 ∷ 8 ∷ 10 ∷ 11 ∷ []) $ by ! (exits r (zs .1 .1 .1 .0) (zs .1 .0) (zs .1 .1 .0) e same₂ same₃ (spelled r u is) came))))))))))))))))))))))))
 
 module _ {M : Type 1} (𝓤 : URA M) (H : Heap 𝓤) (A : Atoms 𝓤) (W : Given 𝓤 H A) (at-mem : Memory → SProp 𝓤) (run : Routine → Fun 𝓤) where
-  walks : (C : Calls 𝓤 H) (Λ : Loops 𝓤 H) → FmC 𝓤 H (W .laws) C → Triple 𝓤 (C #board·handle-line) (Callee 𝓤 H A at-mem run) → Walks 𝓤 H A self.ended stayed (WpFn 𝓤 H C Λ code.function) (self.clauses 𝓤 H A at-mem run)
+  walks : (C : Calls 𝓤 H) (Λ : Loops 𝓤 H) → FmC 𝓤 H (W .laws) C → Triple 𝓤 (C #day·handle-line) (Callee 𝓤 H A at-mem run) → Walks 𝓤 H A self.ended stayed (WpFn 𝓤 H C Λ code.function) (self.clauses 𝓤 H A at-mem run)
   walks C Λ fm known = walked 𝓤 H A self.ended stayed (self.clauses 𝓤 H A at-mem run) (WpFn 𝓤 H C Λ code.function) (λ κs. (slice-vals, (slice-vals, (slice-vals, (LL.vals T.the-type T′.the-laws, tt)))))
       (λ κs. (shr-slice-tells (named 0) (κs .0) u8, (mut-slice-tells (named 1) (κs .1 .0) u16, (mut-slice-tells (named 2) (κs .1 .1 .0) u16, (LL.tells T.the-type T′.the-laws, tt)))))
       (λ κs qs bounds a g are. via 𝓤 _ (fst∗ 𝓤 _ (emp 𝓤)) (walk 𝓤 H A W at-mem run (κs .0) (κs .1 .0) (κs .1 .1 .0) (qs .0) (qs .1 .0) (qs .1 .1 .0) (a .0)
@@ -220,7 +220,7 @@ module _ {M : Type 1} (𝓤 : URA M) (H : Heap 𝓤) (A : Atoms 𝓤) (W : Given
   all-go = (goes-none-slice 𝓤 H A W 3 (0 ∷ []) tt (plain (λ _. u8)) yes, (goes-gave-slice 𝓤 H A W 3 1 tt (plain (λ _. u16)), (goes-gave-slice 𝓤 H A W 3 2 tt (plain (λ _. u16)), (goes-none 𝓤 H A W 3 (λ _. T.the-row) yes (λ κs x f. refl), tt))))
 
 meets : {M : Type 1} (𝓤 : URA M) (H : Heap 𝓤) (A : Atoms 𝓤) (W : Given 𝓤 H A) (at-mem : Memory → SProp 𝓤) (run : Routine → Fun 𝓤) (𝓣 : Tables 𝓤 H)
-    → Triple 𝓤 (𝓣 .C #board·handle-line) (Callee 𝓤 H A at-mem run)
+    → Triple 𝓤 (𝓣 .C #day·handle-line) (Callee 𝓤 H A at-mem run)
     → Meets 𝓤 H A self.signature (WpFn 𝓤 H (𝓣 .C) (𝓣 .Λ) code.function) (self.spec 𝓤 H A at-mem run)
 meets 𝓤 H A W at-mem run 𝓣 known = walk-meets 𝓤 H A self.ended stayed W (all-go 𝓤 H A W at-mem run) (self.clauses 𝓤 H A at-mem run) (WpFn 𝓤 H (𝓣 .C) (𝓣 .Λ) code.function) (WpFn-mono 𝓤 H (W .laws) 𝓣 code.function)
     (walks 𝓤 H A W at-mem run (𝓣 .C) (𝓣 .Λ) (fmOf 𝓤 H (W .laws) 𝓣) known)
@@ -229,6 +229,6 @@ pub tallied-spec : {M : Type 1} → stated.statement M
 unfolding code.routine tablesOf
 tallied-spec 𝓤 H 𝓜 𝓖 𝓡 =
     entered 𝓤 H (tripleOf 𝓤 H (𝓖 .A) self.signature (self.spec 𝓤 H (𝓖 .A) (𝓜 .mem) (𝓡 .run)))
-    (tables 𝓤 H 𝓜 𝓡 code.env .C) (tables 𝓤 H 𝓜 𝓡 code.env .Λ) #board·tallied code.function (code.unfolded 𝓤 H 𝓜 𝓡)
+    (tables 𝓤 H 𝓜 𝓡 code.env .C) (tables 𝓤 H 𝓜 𝓡 code.env .Λ) #day·tallied code.function (code.unfolded 𝓤 H 𝓜 𝓡)
     (meets 𝓤 H (𝓖 .A) (givenOf 𝓤 H 𝓜 𝓖) (𝓜 .mem) (𝓡 .run) (tablesOf 𝓤 H 𝓜 (tables 𝓤 H 𝓜 𝓡 code.env))
-    (cited 𝓤 H (Callee 𝓤 H (𝓖 .A) (𝓜 .mem) (𝓡 .run)) 𝓜 𝓡 code.env #board·handle-line callee-def.routine code.calls-board·handling·handle-line (callee-thm.met 𝓤 H 𝓜 𝓖 𝓡)))
+    (cited 𝓤 H (Callee 𝓤 H (𝓖 .A) (𝓜 .mem) (𝓡 .run)) 𝓜 𝓡 code.env #day·handle-line callee-def.routine code.calls-day·handle-line (callee-thm.met 𝓤 H 𝓜 𝓖 𝓡)))

@@ -1,4 +1,4 @@
--- `board::handling::handle_line` meets its contract: a walk of its MIR, by hand. The tally's borrow is opened and the tally copied out; board and work words go to
+-- `day::handle_line` meets its contract: a walk of its MIR, by hand. The tally's borrow is opened and the tally copied out; board and work words go to
 -- `handle` for good, each at its own lifetime; the line's slice is Copy, and one copy is kept; what `handle` returns is taken apart, and its tally stored.
 -- Assumes nothing.
 use mathlib.Core.Path.{_≡_, refl, ap}
@@ -50,14 +50,14 @@ use Rattle.answers.proofs.Reply as R
 use Rattle.answers.proofs.Reply.Laws as R′
 use Rattle.answers.proofs.Handled as S
 use Rattle.answers.proofs.Handled.Laws as S′
-use Rattle.board.proofs.handling.handle as callee
-use Rattle.board.proofs.handling.handle.Symbol as callee-def
-use Rattle.board.proofs.handling.handle.Symbol.{name as #board·handle}
-use Rattle.board.proofs.handling.handle.Met as callee-thm
-use Rattle.board.proofs.handling.handle_line.Key.{name as #board·handle-line}
-use Rattle.board.proofs.handling.handle_line as self
-use Rattle.board.proofs.handling.handle_line.Statement as stated
-use Rattle.board.proofs.handling.handle_line.Code as code
+use Rattle.board.proofs.handle as callee
+use Rattle.board.proofs.handle.Symbol as callee-def
+use Rattle.board.proofs.handle.Symbol.{name as #board·handle}
+use Rattle.board.proofs.handle.Met as callee-thm
+use Rattle.day.proofs.handle_line.Key.{name as #day·handle-line}
+use Rattle.day.proofs.handle_line as self
+use Rattle.day.proofs.handle_line.Statement as stated
+use Rattle.day.proofs.handle_line.Code as code
 
 abbrev stayed : Stays (self.ended .signature .params) (self.ended .kept)
 stayed = (stay-none-slice (0 ∷ []) tt (plain (λ _. u8)) yes, (gave-slice (1 ∷ []) tt (plain (λ _. u16)), (gave-slice (2 ∷ []) tt (plain (λ _. u16)), (stay-ref (3 ∷ []) tt (plain (λ _. T.the-row)), tt))))
@@ -207,6 +207,6 @@ pub handle-line-spec : {M : Type 1} → stated.statement M
 unfolding code.routine tablesOf
 handle-line-spec 𝓤 H 𝓜 𝓖 𝓡 =
     entered 𝓤 H (tripleOf 𝓤 H (𝓖 .A) self.signature (self.spec 𝓤 H (𝓖 .A) (𝓜 .mem) (𝓡 .run)))
-    (tables 𝓤 H 𝓜 𝓡 code.env .C) (tables 𝓤 H 𝓜 𝓡 code.env .Λ) #board·handle-line code.function (code.unfolded 𝓤 H 𝓜 𝓡)
+    (tables 𝓤 H 𝓜 𝓡 code.env .C) (tables 𝓤 H 𝓜 𝓡 code.env .Λ) #day·handle-line code.function (code.unfolded 𝓤 H 𝓜 𝓡)
     (meets 𝓤 H (𝓖 .A) (givenOf 𝓤 H 𝓜 𝓖) (𝓜 .mem) (𝓡 .run) (tablesOf 𝓤 H 𝓜 (tables 𝓤 H 𝓜 𝓡 code.env))
-    (cited 𝓤 H (Callee 𝓤 H (𝓖 .A) (𝓜 .mem) (𝓡 .run)) 𝓜 𝓡 code.env #board·handle callee-def.routine code.calls-board·handling·handle (callee-thm.met 𝓤 H 𝓜 𝓖 𝓡)))
+    (cited 𝓤 H (Callee 𝓤 H (𝓖 .A) (𝓜 .mem) (𝓡 .run)) 𝓜 𝓡 code.env #board·handle callee-def.routine code.calls-board·handle (callee-thm.met 𝓤 H 𝓜 𝓖 𝓡)))
