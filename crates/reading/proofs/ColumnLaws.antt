@@ -11,7 +11,7 @@ use lib.ListN.{length, take, drop, getD, set}
 use lib.Seq.{sets, drop-cons}
 use borrow.Author.Tests.{ltb-true, ltb-false, eqb-true, le-leb, lt-leb, ne-eqb}
 use Rattle.matching.specs.Lists.{all, any}
-use Rattle.rules.specs.Lines.{isDigit, afterSpaces, isNumeral, numeralFrom, isColumn, columnValue, columnBytes}
+use Rattle.rules.specs.InputLines.{isDigit, afterSpaces, isNumeral, numeralFrom, isColumn, columnValue, columnBytes}
 use Rattle.reading.specs.declared.State.{State}
 use Rattle.reading.specs.declared.State.the-variants.{Blank, Zero, Number, Spoilt}
 use Rattle.reading.specs.declared.Cell.the-variants.{Value, Unread}

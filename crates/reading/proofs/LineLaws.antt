@@ -9,7 +9,7 @@ use lib.ListN.{length, take, drop, getD, replicate, length-map, length-drop}
 use lib.Seq.{sets, sets-eq, take-append-add, drop-drop}
 use borrow.Author.Tests.{lt-leb, le-leb, eq-eqb, ne-eqb, not-true, not-false}
 use Rattle.matching.specs.Lists.{all, any}
-use Rattle.rules.specs.Lines.{isColumn, columnValue, letterOf, columnCount, columnsFrom, letterS, letterA, letterW, letterP, allowed, wellFormed, values, lineRefusal}
+use Rattle.rules.specs.InputLines.{isColumn, columnValue, letterOf, columnCount, columnsFrom, letterS, letterA, letterW, letterP, allowed, wellFormed, values, lineRefusal}
 use Rattle.reading.specs.declared.Kind.{Kind}
 use Rattle.reading.specs.declared.Kind.the-variants.{Open, Accept, Withdraw, Print, Malformed, TooLarge}
 use Rattle.reading.specs.declared.Columns.{Columns}

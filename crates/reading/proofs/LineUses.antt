@@ -10,7 +10,7 @@ use lib.Seq.{take-append-seam, take-take}
 use borrow.Author.Tests.{eqb-true, leb-true, ne-eqb}
 use Rattle.matching.specs.Lists.{all, any}
 use Rattle.rules.specs.Layout.{row8}
-use Rattle.rules.specs.Lines.{isColumn, columnValue, letterOf, columnCount, columnsFrom, letterS, letterA, letterW, letterP, mostBytes, allowed, wellFormed, values, lineRefusal}
+use Rattle.rules.specs.InputLines.{isColumn, columnValue, letterOf, columnCount, columnsFrom, letterS, letterA, letterW, letterP, mostBytes, allowed, wellFormed, values, lineRefusal}
 use Rattle.reading.specs.declared.Line.{Line}
 use Rattle.reading.specs.Reading.{kindRefusal, kindLetter, kindOf, refusedAs, mostColumns, tenColumns, refusedLine, lineOf}
 use Rattle.reading.proofs.LineLaws.{zeros, take-zeros, allowed-known}

@@ -5,7 +5,7 @@ use mathlib.Core.List.{List, [], _∷_}
 use Prim.Native.Nat.{ℕ, zero, suc, _+_, _-_, _*_}
 use lib.Dec.{eqb, ltb}
 use lib.ListN.{take, drop, set, replicate}
-use Rattle.rules.specs.Lines.{columnBytes, isColumn, columnValue}
+use Rattle.rules.specs.InputLines.{columnBytes, isColumn, columnValue}
 use Rattle.reading.specs.Reading.{mostColumns}
 use Rattle.reading.specs.declared.State.{State}
 use Rattle.reading.specs.declared.State.the-variants.{Blank, Zero, Number, Spoilt}

@@ -4,8 +4,8 @@ use mathlib.Core.List.{List, _++_}
 use Prim.Native.Nat.{ℕ}
 use lib.Dec.{eqb}
 use lib.ListN.{take, replicate}
-use Rattle.rules.specs.Answers.{letterX}
-use Rattle.rules.specs.Lines.{letterS, letterA, letterW, letterP, letterOf, columnCount, allowed, values, lineRefusal}
+use Rattle.rules.specs.AnswerLines.{letterX}
+use Rattle.rules.specs.InputLines.{letterS, letterA, letterW, letterP, letterOf, columnCount, allowed, values, lineRefusal}
 use Rattle.reading.specs.declared.Kind.{Kind}
 use Rattle.reading.specs.declared.Kind.the-variants.{Open, Accept, Withdraw, Print, Malformed, TooLarge}
 use Rattle.reading.specs.declared.Line.{Line}

@@ -7,7 +7,7 @@ ghost use mathlib.Core.Bool.{true};
 ghost use mathlib.Core.List.{_∷_};
 ghost use Prim.Native.Nat.{_-_, _*_, _≤_};
 ghost use lib.ListN.{length, take, drop, getD, replicate};
-ghost use Rattle.rules.specs.Lines.{columnBytes};
+ghost use Rattle.rules.specs.InputLines.{columnBytes};
 ghost use Rattle.reading.specs.Reading.{kindRefusal, kindLetter, classOf, refusedLine, lineOf, mostColumns};
 ghost use Rattle.reading.specs.Machine.{stepOf, heldBy, ended, cellOf, columnsAt, capped, gathered};
 

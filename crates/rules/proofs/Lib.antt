@@ -1,12 +1,17 @@
+pub mod Letters
 pub mod WordLaws
 pub mod CheckLaws
 pub mod Accept
 pub mod Withdraw
 pub mod Opening
 pub mod Decide
+pub mod Brings
 pub mod History
 pub mod Checks
 pub mod Steps
+pub mod WorkWords
+pub mod Known
+pub mod Knowing
 pub mod Judging
 pub mod Main
 pub mod Cases

@@ -9,11 +9,11 @@ use native.Mathlib.Nat.{add-comm}
 use lib.ListN.{length, getD, take, drop, set, length-drop}
 use lib.Seq.{take-suc, take-suc-set, drop-set-lt, drop-drop, getD-drop, take-all}
 use Rattle.rules.specs.Runs.{State, Out, items, run}
-use Rattle.rules.specs.Blocks.{replyRoom}
+use Rattle.rules.specs.Chunks.{replyRoom}
 use Rattle.answers.specs.declared.Tally.{Tally}
-use Rattle.board.specs.declared.running.Block.{Block}
+use Rattle.running.specs.declared.running.Block.{Block}
 use Rattle.answers.specs.Handling.{stateOf}
-use Rattle.board.specs.Running.{Leaves}
+use Rattle.running.specs.Running.{Leaves}
 use Rattle.slotboard.specs.Serving.{WorkedOff}
 
 -- the run of x from s₀ goes on from here, at index at

@@ -1,14 +1,14 @@
 // Reads standard input to its end in large pieces, hands them to the board's block function and writes the answers, then the N line.
 ghost use Prim.Native.Nat.{_+_, _≤_, _<_};
 ghost use lib.ListN.{length};
-ghost use Rattle.rules.specs.Blocks.{replyRoom, waiting};
+ghost use Rattle.rules.specs.Chunks.{replyRoom, waiting};
 ghost use Rattle.answers.specs.Handling.{stateOf};
 ghost use Rattle.slotboard.specs.Serving.{WorkedOff, Moved};
-use board::Tally;
-use board::close;
-use board::run_block;
+use answers::Tally;
+use answers::close;
 use libc::STDIN_FILENO;
 use libc::STDOUT_FILENO;
+use running::run_block;
 
 // Writes out the first n bytes. After a write that fails the run goes on, so that it ends with its input.
 fn drain(out: &[u8], n: usize)

@@ -6,7 +6,7 @@ use native.Mathlib.Omega.{arith}
 use native.Mathlib.Decide.{decLe}
 use lib.ListN.{length, take, drop, length-drop}
 use lib.Seq.{drop-drop, take-all}
-use Rattle.rules.specs.Answers.{blockedLines}
+use Rattle.rules.specs.AnswerLines.{blockedLines}
 use Rattle.rules.proofs.TextLaws.{length-blockedLines, blocked-none, blocked-more}
 use Rattle.writing.specs.Writing.{Puts}
 use Rattle.writing.specs.Storing.{Room, Stores, linesBytes, slotsLine}

@@ -10,7 +10,7 @@ use lib.ListN.{length, take}
 use lib.Seq.{sets, length-take-le}
 use Rattle.rules.specs.Layout.{mostSlots}
 use Rattle.rules.specs.Calls.{Check, order, first, orderChecks}
-use Rattle.rules.specs.Lines.{orderLine, orderBytes, writerChecks, written}
+use Rattle.rules.specs.InputLines.{orderLine, orderBytes, writerChecks, written}
 use Rattle.rules.proofs.TextLaws.{length-textLine}
 use Rattle.rules.proofs.WordLaws.{row8-same}
 use Rattle.orders.specs.Verdict.{faultNumber}

@@ -9,7 +9,7 @@ use borrow.Author.Tests.{le-leb, lt-leb}
 use lib.Dec.{leb}
 use lib.ListN.{length, take, length-take}
 use lib.Seq.{take-all}
-use Rattle.rules.specs.Answers.{printed}
+use Rattle.rules.specs.AnswerLines.{printed}
 use Rattle.rules.proofs.TextLaws.{length-textLine}
 use Rattle.writing.specs.Writing.{putText, endOf, Puts}
 use Rattle.writing.specs.Storing.{Room, Stores}

@@ -8,7 +8,7 @@ use lib.Dec.{eqb}
 use lib.ListN.{length, take, drop}
 use lib.Seq.{sets}
 use Rattle.rules.specs.Text.{digit}
-use Rattle.rules.specs.Answers.{printed, letterK, slotsPerLine}
+use Rattle.rules.specs.AnswerLines.{printed, letterK, slotsPerLine}
 
 -- the last digit of v, or `blank` for 0
 abbrev pub placeOf : ℕ → ℕ → ℕ

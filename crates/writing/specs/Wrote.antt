@@ -1,7 +1,7 @@
 -- The paper's numbers and values of the order writer's answer: a refusal's number and a count of 0, or 0 and the count of bytes. With it the buffer as it was left.
 use mathlib.Core.List.{List}
 use Prim.Native.Nat.{ℕ}
-use Rattle.rules.specs.Lines.{Written}
+use Rattle.rules.specs.InputLines.{Written}
 use Rattle.writing.specs.declared.WriteRefusal.{WriteRefusal}
 use Rattle.writing.specs.declared.WriteRefusal.the-variants.{NumberZero, BadCount, OffBoard, NotRising, Short}
 use Rattle.writing.specs.declared.Wrote.{Wrote}

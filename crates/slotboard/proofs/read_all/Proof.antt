@@ -2,7 +2,7 @@
 use Prim.Native.Nat.{_≤_, _<_}
 use mathlib.Core.Path.{_≡_}
 use lib.ListN.{length}
-use Rattle.rules.specs.Blocks.{replyRoom, waiting}
+use Rattle.rules.specs.Chunks.{replyRoom, waiting}
 use borrow.Author.Needs.{needs}
 use Rattle.slotboard.proofs.read_all.Statement.{statement}
 use Rattle.slotboard.proofs.read_all.Tie as tie

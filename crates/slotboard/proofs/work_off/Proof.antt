@@ -3,7 +3,7 @@ use Prim.Native.Nat.{_-_, _≤_}
 use mathlib.Core.Path.{_≡_, _∙_}
 use native.Mathlib.Omega.{arith}
 use lib.ListN.{length}
-use Rattle.rules.specs.Blocks.{replyRoom}
+use Rattle.rules.specs.Chunks.{replyRoom}
 use Rattle.answers.specs.Handling.{stateOf}
 use Rattle.slotboard.proofs.Steps.{Going, goes, goes-on, stops}
 use borrow.Author.Needs.{needs}

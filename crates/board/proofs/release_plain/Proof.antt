@@ -1,0 +1,59 @@
+use mathlib.Core.List.{List}
+use mathlib.Core.Path.{_≡_, refl, sym, ap, _∙_}
+use Prim.Native.Nat.{ℕ, _-_, _≤_}
+use native.Mathlib.Omega.{arith}
+use lib.ListN.{length}
+use borrow.Author.Needs.{needs}
+use Rattle.matching.specs.Lists.{slots}
+use Rattle.rules.specs.Calls.{releasedAll}
+use Rattle.board.proofs.Releasing.{free-next, free-done}
+use Rattle.board.proofs.release_plain.Statement.{statement}
+use Rattle.board.proofs.release_plain.Tie as tie
+
+abbrev Inv-loop : tie.InvT-loop
+Inv-loop board₀ n k s₀ board s = (s ≤ n) × (length board ≡ length board₀) × (releasedAll k board (slots s) ≡ releasedAll k board₀ (slots n))
+
+abbrev μ-loop : tie.MeasureT-loop
+μ-loop board₀ n k s₀ board s = s
+
+loop-holds : tie.Need-loop-holds Inv-loop μ-loop
+loop-holds c = (search needs, refl, refl)
+
+release-in-requires : tie.Need-release-in-requires Inv-loop μ-loop
+release-in-requires c κs = search needs
+
+sub-s : tie.Need-sub-s Inv-loop μ-loop
+sub-s c = search needs
+
+loop-less : tie.Need-loop-less Inv-loop μ-loop
+loop-less c = search needs
+
+loop-again : tie.Need-loop-again Inv-loop μ-loop
+loop-again c =
+    let a = c .before .before .before .before .before .before .before .args in
+    let l = c .before .before .before .before .before .loop in
+    let r = c .before .before .release-in in
+    (search needs, r .kept .0 ∙ l .inv .1, ap (λ (b : List ℕ). releasedAll (a .k) b (slots (l .s - 1))) (r .ensures) ∙ free-next (a .k) (l .board) (l .s) (omega arith) ∙ l .inv .2)
+
+same-length : tie.Need-same-length Inv-loop μ-loop
+same-length c = c .before .loop .inv .1
+
+returns : tie.Need-returns Inv-loop μ-loop
+returns c =
+    let a = c .before .before .before .args in
+    let l = c .before .loop in
+    sym (free-done (a .k) (l .board) (l .s) (omega arith)) ∙ l .inv .2
+
+pub release-plain-spec : {M : Type 1} → statement M
+release-plain-spec =
+    tie.close
+    (tie.spec
+    Inv-loop
+    μ-loop
+    loop-holds
+    release-in-requires
+    sub-s
+    loop-less
+    loop-again
+    same-length
+    returns)

@@ -1,0 +1,99 @@
+-- What the reader gives of a line, against the line's own call.
+use mathlib.Core.Bool.{Bool, true, false, cond}
+use mathlib.Core.List.{List, [], _∷_}
+use mathlib.Core.Path.{_≡_, refl, sym, ap, ap₂, _∙_, subst}
+use Prim.Native.Nat.{ℕ, zero, suc, _-_, _≤_}
+use native.Mathlib.Omega.{arith}
+use lib.Dec.{eqb}
+use lib.ListN.{length, getD, take, drop, length-take, length-drop}
+use lib.Seq.{getD-take, getD-drop}
+use borrow.Author.Tests.{eq-eqb, ne-eqb}
+use Rattle.rules.specs.Calls.{Call, Answer, accept, open-board, withdraw}
+use Rattle.rules.specs.Known.{Known, performKnown, knownAfter}
+use Rattle.rules.specs.KnownLines.{asked, handleKnown, knownLine}
+use Rattle.rules.specs.Layout.{reads, row8, size}
+use Rattle.rules.specs.InputLines.{letterOf, columnCount, values, lineRefusal, callOf}
+use Rattle.rules.specs.Runs as R
+use Rattle.rules.specs.Runs.{State, unread, answered}
+use Rattle.rules.proofs.WordLaws.{reads-is}
+use Rattle.board.specs.Asking.{callBy}
+use Rattle.reading.specs.declared.Kind.{Kind}
+use Rattle.reading.specs.declared.Kind.the-variants.{Open, Accept, Withdraw, Print, Malformed, TooLarge}
+use Rattle.reading.specs.declared.Line.{Line}
+use Rattle.reading.specs.Reading.{kindRefusal, kindLetter, tenColumns, lineOf}
+use Rattle.reading.proofs.LineUses.{line-taken, line-refused, kind-refusal, kind-letter, value-count, most-ten, first-column, slot-row}
+use Rattle.handling.specs.Lines.{askOf, lineCall}
+
+-- ---- the row of an order: the eight words after the first of ten
+
+pub row-is : (l : List ℕ) → length l ≡ 10 → reads l 1 8 ≡ take 8 (drop 1 l)
+row-is l h =
+    let eight : length (take 8 (drop 1 l)) ≡ 8 = omega (arith, length-take 8 (drop 1 l), length-drop 1 l) in
+    subst (λ (k : ℕ). reads l 1 k ≡ take 8 (drop 1 l)) eight (reads-is l 1 (take 8 (drop 1 l)) (λ j low. sym (getD-take 8 (drop 1 l) j 0 (omega arith) ∙ getD-drop 1 l j 0)))
+
+-- ---- a line as the reader gave it
+
+module _ (l : List ℕ) (read : Line) (is : read ≡ lineOf l) where
+  refusal-is : kindRefusal (read .kind) ≡ lineRefusal l
+  refusal-is = ap (λ (t : Line). kindRefusal (t .kind)) is ∙ kind-refusal l
+
+  pub few-columns : read .count ≤ 10
+  few-columns = subst (λ (t : Line). t .count ≤ 10) (sym is) (go (lineRefusal l) refl)
+    where
+      go : (m : ℕ) → lineRefusal l ≡ m → lineOf l .count ≤ 10
+      go zero e = rw (line-taken l e) (most-ten l e)
+      go (suc m) e = rw (line-refused l (λ z. omega arith)) (omega arith)
+
+  -- not read
+  pub unread-as : (k : Known) (s : State) (h : R.Handled) → (kindRefusal (read .kind) ≡ 0 → ⊥) → h ≡ unread (kindRefusal (read .kind)) s → h ≡ handleKnown k l s
+  unfolding handleKnown
+  unread-as k s h some e = rw (ne-eqb (lineRefusal l) 0 (λ z. some (refusal-is ∙ z))) (e ∙ ap (λ (n : ℕ). unread n s) refusal-is)
+
+  pub unread-known : (k : Known) (s : State) → (kindRefusal (read .kind) ≡ 0 → ⊥) → k ≡ knownLine k l s
+  unfolding knownLine
+  unread-known k s some = rw (ne-eqb (lineRefusal l) 0 (λ z. some (refusal-is ∙ z)))
+
+  -- read
+  module _ (taken : kindRefusal (read .kind) ≡ 0) where
+    fine : lineRefusal l ≡ 0
+    fine = sym refusal-is ∙ taken
+
+    letter-is : kindLetter (read .kind) ≡ letterOf l
+    letter-is = ap (λ (t : Line). kindLetter (t .kind)) is ∙ kind-letter l fine
+
+    columns-are : read .columns ≡ tenColumns (values l)
+    columns-are = ap (λ (t : Line). t .columns) (is ∙ line-taken l fine)
+
+    count-is : read .count ≡ length (values l)
+    count-is = ap (λ (t : Line). t .count) (is ∙ line-taken l fine) ∙ sym (value-count l)
+
+    number-is : getD (read .columns) 0 0 ≡ getD (values l) 0 0
+    number-is = ap (λ (vs : List ℕ). getD vs 0 0) columns-are ∙ first-column (values l)
+
+    row-same : take 8 (drop 1 (read .columns)) ≡ row8 (drop 1 (values l))
+    row-same = ap (λ (vs : List ℕ). take 8 (drop 1 vs)) columns-are ∙ slot-row (values l)
+
+    -- the four kinds
+    by-kind : (k : Kind) → kindRefusal k ≡ 0 → callBy (askOf k) (getD (values l) 0 0) (length (values l) - 1) (row8 (drop 1 (values l))) ≡ callOf (kindLetter k) (values l)
+    unfolding callOf
+    by-kind Open e = refl
+    by-kind Accept e = refl
+    by-kind Withdraw e = refl
+    by-kind Print e = refl
+    by-kind Malformed e = absurd (omega arith)
+    by-kind TooLarge e = absurd (omega arith)
+
+    call-is : lineCall (askOf (read .kind)) read ≡ asked l
+    call-is =
+        (λ i. callBy (askOf (read .kind)) (number-is i) (count-is i - 1) (row-same i))
+        ∙ by-kind (read .kind) taken ∙ ap (λ (x : ℕ). callOf x (values l)) letter-is
+
+    pub read-as : (k : Known) (s : State) (h : R.Handled) → h ≡ answered (kindLetter (read .kind)) (read .columns) s (performKnown k (lineCall (askOf (read .kind)) read) (s .board) (s .work)) → h ≡ handleKnown k l s
+    unfolding handleKnown
+    read-as k s h e =
+        rw fine (e
+        ∙ (λ i. answered (letter-is i) (number-is i ∷ []) s (performKnown k (call-is i) (s .board) (s .work))))
+
+    pub read-known : (k : Known) (s : State) (r : Known) → r ≡ knownAfter k (lineCall (askOf (read .kind)) read) (size (s .board)) (performKnown k (lineCall (askOf (read .kind)) read) (s .board) (s .work)) (length (s .work)) → r ≡ knownLine k l s
+    unfolding knownLine
+    read-known k s r e = rw fine (e ∙ ap (λ (q : Call). knownAfter k q (size (s .board)) (performKnown k q (s .board) (s .work)) (length (s .work))) call-is)
