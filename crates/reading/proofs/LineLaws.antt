@@ -9,7 +9,8 @@ use lib.ListN.{length, take, drop, getD, replicate, length-map, length-drop}
 use lib.Seq.{sets, sets-eq, take-append-add, drop-drop}
 use borrow.Author.Tests.{lt-leb, le-leb, eq-eqb, ne-eqb, not-true, not-false}
 use Rattle.matching.specs.Lists.{all, any}
-use Rattle.rules.specs.InputLines.{isColumn, columnValue, letterOf, columnCount, columnsFrom, letterS, letterA, letterW, letterP, allowed, wellFormed, values, lineRefusal}
+use Rattle.rules.specs.InputLines.{isColumn, columnValue, letterOf, columnCount, columnsFrom, allowed, wellFormed, values, lineRefusal}
+use Rattle.rules.specs.Letters.{Letter, letterS, letterA, letterW, letterP, letterX, letterNamed}
 use Rattle.reading.specs.declared.Kind.{Kind}
 use Rattle.reading.specs.declared.Kind.the-variants.{Open, Accept, Withdraw, Print, Malformed, TooLarge}
 use Rattle.reading.specs.declared.Columns.{Columns}
@@ -78,25 +79,22 @@ columns-are x s at i (suc k) =
 
 -- ---- a letter that may have so many columns is known
 
-pub allowed-known : (x c : ℕ) → allowed x c ≡ true → kindRefusal (kindOf x) ≡ 0
-allowed-known x c h = cases (eqb x letterS) (eqb x letterA) (eqb x letterW) (eqb x letterP) _ _ _ _ h
-  where
-    cases : (a b d e p q r t : Bool) → cond a p (cond b q (cond d r (cond e t false))) ≡ true → kindRefusal (cond a Open (cond b Accept (cond d Withdraw (cond e Print Malformed)))) ≡ 0
-    cases true b d e p q r t h = refl
-    cases false true d e p q r t h = refl
-    cases false false true e p q r t h = refl
-    cases false false false true p q r t h = refl
-    cases false false false false p q r t h = absurd (let z : _≡_ {A = ℕ} 0 1 = cc in omega arith)
+pub allowed-known : (x : Letter) (c : ℕ) → allowed x c ≡ true → kindRefusal (kindOf x) ≡ 0
+allowed-known letterS c h = refl
+allowed-known letterA c h = refl
+allowed-known letterW c h = refl
+allowed-known letterP c h = refl
+allowed-known letterX c h = absurd (let z : _≡_ {A = ℕ} 0 1 = cc in omega arith)
 
 -- what the code's test of the kind tells
-refused-class : (x c : ℕ) → (kindRefusal (classOf x c) ≡ 0 → ⊥) → (classOf x c ≡ Malformed) × (allowed x c ≡ false)
+refused-class : (x : Letter) (c : ℕ) → (kindRefusal (classOf x c) ≡ 0 → ⊥) → (classOf x c ≡ Malformed) × (allowed x c ≡ false)
 refused-class x c h = cases (allowed x c) refl
   where
     cases : (t : Bool) → allowed x c ≡ t → (classOf x c ≡ Malformed) × (allowed x c ≡ false)
     cases true e = absurd (h (rw e (allowed-known x c e)))
     cases false e = (rw e, e)
 
-taken-class : (x c : ℕ) → kindRefusal (classOf x c) ≡ 0 → (classOf x c ≡ kindOf x) × (allowed x c ≡ true)
+taken-class : (x : Letter) (c : ℕ) → kindRefusal (classOf x c) ≡ 0 → (classOf x c ≡ kindOf x) × (allowed x c ≡ true)
 taken-class x c h = cases (allowed x c) refl
   where
     cases : (t : Bool) → allowed x c ≡ t → (classOf x c ≡ kindOf x) × (allowed x c ≡ true)
@@ -116,7 +114,7 @@ long-malformed x t h = rw (lt-leb (suc (length t)) 61 (omega arith))
 uneven-malformed : (x : ℕ) (t : List ℕ) → (length t % 6 ≡ 0 → ⊥) → wellFormed (x ∷ t) ≡ false
 unfolding wellFormed
 uneven-malformed x t h =
-    second-false (leb (suc (length t)) 61) (eqb (suc (length t)) (1 + 6 * columnCount (x ∷ t))) (allowed x (columnCount (x ∷ t))) (all isColumn (columnsFrom (x ∷ t) 0 (columnCount (x ∷ t))))
+    second-false (leb (suc (length t)) 61) (eqb (suc (length t)) (1 + 6 * columnCount (x ∷ t))) (allowed (letterNamed x) (columnCount (x ∷ t))) (all isColumn (columnsFrom (x ∷ t) 0 (columnCount (x ∷ t))))
     (ne-eqb (suc (length t)) (1 + 6 * columnCount (x ∷ t)) (λ e. h (omega arith)))
 
 -- by the length that is left
@@ -138,18 +136,18 @@ module _ (x : ℕ) (s : List ℕ) (at c : ℕ) (even : length (drop at s) ≡ 6 
   line-columns : columnsFrom (x ∷ drop at s) 0 (columnCount (x ∷ drop at s)) ≡ columnsAt s at c
   line-columns = let none : at + 6 * 0 ≡ at = omega arith in ap (columnsFrom (x ∷ drop at s) 0) count-is ∙ columns-are x s at 0 c ∙ ap (λ (p : ℕ). columnsAt s p c) none
 
-  formed-is : wellFormed (x ∷ drop at s) ≡ (allowed x c && all isColumn (columnsAt s at c))
+  formed-is : wellFormed (x ∷ drop at s) ≡ (allowed (letterNamed x) c && all isColumn (columnsAt s at c))
   unfolding wellFormed
   formed-is =
       let short = le-leb (suc (length (drop at s))) 61 (omega arith) in
       let whole = eq-eqb (suc (length (drop at s))) (1 + 6 * columnCount (x ∷ drop at s)) (omega (arith, count-is)) in
-      rw (short, whole) (ap₂ (λ (k : ℕ) (ts : List (List ℕ)). allowed x k && all isColumn ts) count-is line-columns)
+      rw (short, whole) (ap₂ (λ (k : ℕ) (ts : List (List ℕ)). allowed (letterNamed x) k && all isColumn ts) count-is line-columns)
 
   values-are : values (x ∷ drop at s) ≡ map columnValue (columnsAt s at c)
   unfolding values
   values-are = ap (map columnValue) line-columns
 
-  letter-malformed : allowed x c ≡ false → lineOf (x ∷ drop at s) ≡ refusedLine Malformed
+  letter-malformed : allowed (letterNamed x) c ≡ false → lineOf (x ∷ drop at s) ≡ refusedLine Malformed
   letter-malformed h = line-malformed _ (formed-is ∙ rw h)
 
   -- by what was gathered of the columns
@@ -170,10 +168,10 @@ module _ (x : ℕ) (s : List ℕ) (at c : ℕ) (even : length (drop at s) ≡ 6 
       cases true e = sym (ap (λ (r : Columns). r .formed) (gathered-all (columnsAt s at c) (zeros mostColumns) 0 true e)) ∙ h
       cases false e = refl
 
-  spoilt-malformed : allowed x c ≡ true → read .formed ≡ false → lineOf (x ∷ drop at s) ≡ refusedLine Malformed
+  spoilt-malformed : allowed (letterNamed x) c ≡ true → read .formed ≡ false → lineOf (x ∷ drop at s) ≡ refusedLine Malformed
   spoilt-malformed a f = line-malformed _ (formed-is ∙ ap₂ (λ (p q : Bool). p && q) a (columns-spoilt f))
 
-  module _ (a : allowed x c ≡ true) (f : read .formed ≡ true) where
+  module _ (a : allowed (letterNamed x) c ≡ true) (f : read .formed ≡ true) where
     well : wellFormed (x ∷ drop at s) ≡ true
     well = formed-is ∙ ap₂ (λ (p q : Bool). p && q) a (columns-formed f)
 
@@ -186,14 +184,14 @@ module _ (x : ℕ) (s : List ℕ) (at c : ℕ) (even : length (drop at s) ≡ 6 
     large-refused : read .fits ≡ false → lineOf (x ∷ drop at s) ≡ refusedLine TooLarge
     large-refused h = line-large _ well (not-false _ (sym fits-is ∙ h))
 
-    line-read : read .fits ≡ true → lineOf (x ∷ drop at s) ≡ record { kind = kindOf x; count = c; columns = read .values }
+    line-read : read .fits ≡ true → lineOf (x ∷ drop at s) ≡ record { kind = kindOf (letterNamed x); count = c; columns = read .values }
     line-read h =
         let none : any (ltb 65535) (values (x ∷ drop at s)) ≡ false = not-true _ (sym fits-is ∙ h) in
         let vs = map columnValue (columnsAt s at c) in
         let ten : length vs ≤ 10 = simp (length-map, length-columnsAt) few in
         let stored : tenColumns (values (x ∷ drop at s)) ≡ read .values =
         ap tenColumns values-are ∙ sym (stored-ten vs ten) ∙ ap (sets (zeros mostColumns) 0) (sym (none-capped vs (ap (any (ltb 65535)) (sym values-are) ∙ none))) ∙ sym (ap (λ (r : Columns). r .values) told) in
-        line-fine _ well none ∙ ap₂ (λ (k : ℕ) (w : List ℕ). record { kind = kindOf x; count = k; columns = w }) count-is stored
+        line-fine _ well none ∙ ap₂ (λ (k : ℕ) (w : List ℕ). record { kind = kindOf (letterNamed x); count = k; columns = w }) count-is stored
 
 -- ---- what the code knows once the columns are read
 
@@ -201,7 +199,7 @@ pub record Known (x : ℕ) (s : List ℕ) (at left : ℕ) (kind : Kind) (number 
   pub measured : left ≡ length s - at
   pub short : left ≤ 60
   pub even : left % 6 ≡ 0
-  pub class : kind ≡ classOf x (left / 6)
+  pub class : kind ≡ classOf (letterNamed x) (left / 6)
   pub numbered : number ≡ kindRefusal kind
 
 module _ {x : ℕ} {s : List ℕ} {at left : ℕ} {kind : Kind} {number : ℕ} (k : Known x s at left kind number) where
@@ -211,17 +209,17 @@ module _ {x : ℕ} {s : List ℕ} {at left : ℕ} {kind : Kind} {number : ℕ} (
   few-columns : left / 6 ≤ 10
   few-columns = omega (arith, k .short)
 
-  number-is : number ≡ kindRefusal (classOf x (left / 6))
+  number-is : number ≡ kindRefusal (classOf (letterNamed x) (left / 6))
   number-is = k .numbered ∙ ap kindRefusal (k .class)
 
   pub kind-returned : (number ≡ 0 → ⊥) → refusedLine kind ≡ lineOf (x ∷ drop at s)
   kind-returned h =
-      let told = refused-class x (left / 6) (λ e. h (number-is ∙ e)) in
+      let told = refused-class (letterNamed x) (left / 6) (λ e. h (number-is ∙ e)) in
       ap refusedLine (k .class ∙ told .0) ∙ sym (letter-malformed x s at (left / 6) whole few-columns (told .1))
 
   module _ (taken : number ≡ 0) {r : Columns} (gave : r ≡ gathered (zeros mostColumns) 0 true (columnsAt s at (left / 6))) where
-    class-told : (classOf x (left / 6) ≡ kindOf x) × (allowed x (left / 6) ≡ true)
-    class-told = taken-class x (left / 6) (sym number-is ∙ taken)
+    class-told : (classOf (letterNamed x) (left / 6) ≡ kindOf (letterNamed x)) × (allowed (letterNamed x) (left / 6) ≡ true)
+    class-told = taken-class (letterNamed x) (left / 6) (sym number-is ∙ taken)
 
     gave-formed : {t : Bool} → r .formed ≡ t → (gathered (zeros mostColumns) 0 true (columnsAt s at (left / 6))) .formed ≡ t
     gave-formed e = sym (ap (λ (r : Columns). r .formed) gave) ∙ e
@@ -242,6 +240,6 @@ module _ {x : ℕ} {s : List ℕ} {at left : ℕ} {kind : Kind} {number : ℕ} (
 
 -- ---- a line is its first byte and what stands after it; an empty one is refused as a lone 0 is
 pub from-first : (l : List ℕ) → lineOf (getD l 0 0 ∷ drop 1 l) ≡ lineOf l
-unfolding lineOf lineRefusal wellFormed values
+unfolding lineOf lineRefusal wellFormed values letterNamed
 from-first [] = refl
 from-first (x ∷ xs) = refl

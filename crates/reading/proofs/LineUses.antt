@@ -10,7 +10,8 @@ use lib.Seq.{take-append-seam, take-take}
 use borrow.Author.Tests.{eqb-true, leb-true, ne-eqb}
 use Rattle.matching.specs.Lists.{all, any}
 use Rattle.rules.specs.Layout.{row8}
-use Rattle.rules.specs.InputLines.{isColumn, columnValue, letterOf, columnCount, columnsFrom, letterS, letterA, letterW, letterP, mostBytes, allowed, wellFormed, values, lineRefusal}
+use Rattle.rules.specs.InputLines.{isColumn, columnValue, letterOf, columnCount, columnsFrom, mostBytes, allowed, wellFormed, values, lineRefusal}
+use Rattle.rules.specs.Letters.{Letter, letterS, letterA, letterW, letterP, letterX}
 use Rattle.reading.specs.declared.Line.{Line}
 use Rattle.reading.specs.Reading.{kindRefusal, kindLetter, kindOf, refusedAs, mostColumns, tenColumns, refusedLine, lineOf}
 use Rattle.reading.proofs.LineLaws.{zeros, take-zeros, allowed-known}
@@ -63,14 +64,14 @@ kind-refusal l = cases (lineRefusal l) refl (refusals l)
 
 -- the letter of a line that is taken
 pub kind-letter : (l : List ℕ) → lineRefusal l ≡ 0 → kindLetter ((lineOf l) .kind) ≡ letterOf l
-kind-letter l h = ap (λ (t : Line). kindLetter (t .kind)) (line-taken l h) ∙ cases (letterOf l) (columnCount l) (eqb (letterOf l) letterS) (eqb (letterOf l) letterA) (eqb (letterOf l) letterW) (eqb (letterOf l) letterP) refl refl refl refl (fine-parts l h .1)
+kind-letter l h = ap (λ (t : Line). kindLetter (t .kind)) (line-taken l h) ∙ back (letterOf l)
   where
-    cases : (x c : ℕ) (a b d e : Bool) → eqb x letterS ≡ a → eqb x letterA ≡ b → eqb x letterW ≡ d → eqb x letterP ≡ e → allowed x c ≡ true → kindLetter (kindOf x) ≡ x
-    cases x c true b d e ea eb ed ee h = rw ea (sym (eqb-true x letterS ea))
-    cases x c false true d e ea eb ed ee h = rw (ea, eb) (sym (eqb-true x letterA eb))
-    cases x c false false true e ea eb ed ee h = rw (ea, eb, ed) (sym (eqb-true x letterW ed))
-    cases x c false false false true ea eb ed ee h = rw (ea, eb, ed, ee) (sym (eqb-true x letterP ee))
-    cases x c false false false false ea eb ed ee h = absurd (let z : false ≡ true = rw (ea, eb, ed, ee) at h in let n : _≡_ {A = ℕ} 0 1 = cc in omega arith)
+    back : (x : Letter) → kindLetter (kindOf x) ≡ x
+    back letterS = refl
+    back letterA = refl
+    back letterW = refl
+    back letterP = refl
+    back letterX = refl
 
 -- its numbers: as many as it has columns, at most ten, and the ten of the answer begin with them
 pub value-count : (l : List ℕ) → length (values l) ≡ columnCount l

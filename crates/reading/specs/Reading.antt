@@ -4,24 +4,31 @@ use mathlib.Core.List.{List, _++_}
 use Prim.Native.Nat.{ℕ}
 use lib.Dec.{eqb}
 use lib.ListN.{take, replicate}
-use Rattle.rules.specs.AnswerLines.{letterX}
-use Rattle.rules.specs.InputLines.{letterS, letterA, letterW, letterP, letterOf, columnCount, allowed, values, lineRefusal}
+use Rattle.rules.specs.InputLines.{letterOf, columnCount, allowed, values, lineRefusal}
+use Rattle.rules.specs.Letters.{Letter, letterS, letterA, letterW, letterP, letterX}
+use Rattle.answers.specs.Numbers.{gateNumber}
+use Rattle.answers.specs.declared.Gate.{Gate}
+use Rattle.answers.specs.declared.Gate.the-variants.{Passed, Refused}
+use Rattle.answers.specs.declared.Refusal.the-variants as refusal
 use Rattle.reading.specs.declared.Kind.{Kind}
 use Rattle.reading.specs.declared.Kind.the-variants.{Open, Accept, Withdraw, Print, Malformed, TooLarge}
 use Rattle.reading.specs.declared.Line.{Line}
 
--- ---- the document's numbers and letters of every kind
+-- ---- the document's refusal and letter of every kind
+
+abbrev pub kindGate : Kind → Gate
+kindGate Open = Passed
+kindGate Accept = Passed
+kindGate Withdraw = Passed
+kindGate Print = Passed
+kindGate Malformed = Refused refusal.Malformed
+kindGate TooLarge = Refused refusal.TooLarge
 
 abbrev pub kindRefusal : Kind → ℕ
-kindRefusal Open = 0
-kindRefusal Accept = 0
-kindRefusal Withdraw = 0
-kindRefusal Print = 0
-kindRefusal Malformed = 1
-kindRefusal TooLarge = 2
+kindRefusal kind = gateNumber (kindGate kind)
 
 -- the letter of the line's answer: "X for refusals 1 and 2"
-abbrev pub kindLetter : Kind → ℕ
+abbrev pub kindLetter : Kind → Letter
 kindLetter Open = letterS
 kindLetter Accept = letterA
 kindLetter Withdraw = letterW
@@ -31,18 +38,18 @@ kindLetter TooLarge = letterX
 
 -- ---- and back
 
-abbrev pub kindOf : ℕ → Kind
-kindOf letter =
-    cond (eqb letter letterS) Open
-    (cond (eqb letter letterA) Accept
-    (cond (eqb letter letterW) Withdraw
-    (cond (eqb letter letterP) Print Malformed)))
+abbrev pub kindOf : Letter → Kind
+kindOf letterS = Open
+kindOf letterA = Accept
+kindOf letterW = Withdraw
+kindOf letterP = Print
+kindOf letterX = Malformed
 
 abbrev pub refusedAs : ℕ → Kind
 refusedAs refusal = cond (eqb refusal 1) Malformed TooLarge
 
 -- "Each letter has its own allowed count of columns"
-abbrev pub classOf : ℕ → ℕ → Kind
+abbrev pub classOf : Letter → ℕ → Kind
 classOf letter count = cond (allowed letter count) (kindOf letter) Malformed
 
 -- ---- the line

@@ -8,8 +8,12 @@ ghost use mathlib.Core.List.{_∷_};
 ghost use Prim.Native.Nat.{_-_, _*_, _≤_};
 ghost use lib.ListN.{length, take, drop, getD, replicate};
 ghost use Rattle.rules.specs.InputLines.{columnBytes};
-ghost use Rattle.reading.specs.Reading.{kindRefusal, kindLetter, classOf, refusedLine, lineOf, mostColumns};
+ghost use Rattle.rules.specs.Letters.{byteOf, letterNamed};
+ghost use Rattle.reading.specs.Reading.{kindGate, kindRefusal, kindLetter, classOf, refusedLine, lineOf, mostColumns};
 ghost use Rattle.reading.specs.Machine.{stepOf, heldBy, ended, cellOf, columnsAt, capped, gathered};
+use answers::Gate;
+use answers::Refusal;
+use answers::gate_number;
 
 // What a line is: one of the four that are known, or refused by 1 or by 2.
 pub enum Kind {
@@ -50,7 +54,7 @@ struct Columns {
 
 // Each letter has its own allowed count of columns.
 fn classify(letter: u8, count: usize) -> Kind
-    ensures { λ r. ⌜ r ≡ classOf letter count ⌝ }
+    ensures { λ r. ⌜ r ≡ classOf (letterNamed letter) count ⌝ }
 {
     match letter {
         b'S' => match count {
@@ -73,23 +77,30 @@ fn classify(letter: u8, count: usize) -> Kind
     }
 }
 
-// The document's number: 1 or 2 for a refused line, else 0.
-pub fn refusal(kind: Kind) -> u16
-    ensures { λ r. ⌜ r ≡ kindRefusal kind ⌝ }
+// Whether a line of this kind is read, or what refuses it.
+pub fn gate_of(kind: Kind) -> Gate
+    ensures { λ r. ⌜ r ≡ kindGate kind ⌝ }
 {
     match kind {
-        Kind::Malformed => 1,
-        Kind::TooLarge => 2,
-        Kind::Open => 0,
-        Kind::Accept => 0,
-        Kind::Withdraw => 0,
-        Kind::Print => 0,
+        Kind::Malformed => Gate::Refused(Refusal::Malformed),
+        Kind::TooLarge => Gate::Refused(Refusal::TooLarge),
+        Kind::Open => Gate::Passed,
+        Kind::Accept => Gate::Passed,
+        Kind::Withdraw => Gate::Passed,
+        Kind::Print => Gate::Passed,
     }
+}
+
+fn refusal(kind: Kind) -> u16
+    ensures { λ r. ⌜ r ≡ kindRefusal kind ⌝ }
+{
+    let gate = gate_of(kind);
+    gate_number(gate)
 }
 
 // The letter of the line's answer: X for a refused line.
 pub fn answer_letter(kind: Kind) -> u8
-    ensures { λ r. ⌜ r ≡ kindLetter kind ⌝ }
+    ensures { λ r. ⌜ r ≡ byteOf (kindLetter kind) ⌝ }
 {
     match kind {
         Kind::Open => b'S',

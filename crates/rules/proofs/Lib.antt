@@ -2,12 +2,13 @@ pub mod Letters
 pub mod WordLaws
 pub mod CheckLaws
 pub mod Accept
+pub mod Checks
+pub mod Finding
 pub mod Withdraw
 pub mod Opening
 pub mod Decide
 pub mod Brings
 pub mod History
-pub mod Checks
 pub mod Steps
 pub mod WorkWords
 pub mod Known
