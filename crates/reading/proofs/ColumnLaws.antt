@@ -16,6 +16,7 @@ use Rattle.reading.specs.declared.State.{State}
 use Rattle.reading.specs.declared.State.the-variants.{Blank, Zero, Number, Spoilt}
 use Rattle.reading.specs.declared.Cell.the-variants.{Value, Unread}
 use Rattle.reading.specs.declared.Columns.{Columns}
+use Rattle.reading.specs.Reader.{pastColumns}
 use Rattle.reading.specs.Machine.{stepOf, heldBy, endedAfter, cellOf, columnsAt, capped, spoiltColumns, gathered}
 
 -- ---- the value stays below 10 ^ i
@@ -118,36 +119,48 @@ fit-more true true y = refl
 fit-more false true y = refl
 fit-more fits false y = refl
 
-pub gathered-all : (ts : List (List ℕ)) (vs : List ℕ) (i : ℕ) (fits : Bool) → all isColumn ts ≡ true
-    → gathered vs i fits ts ≡ record { formed = true; fits = fits && not (any (ltb 65535) (map columnValue ts)); values = sets vs i (map capped (map columnValue ts)) }
-gathered-all [] vs i true h = refl
-gathered-all [] vs i false h = refl
-gathered-all (t ∷ ts) vs i fits h =
+pub gathered-all : (ts : List (List ℕ)) (vs : List ℕ) (i : ℕ) (fits : Bool) (at : ℕ) → all isColumn ts ≡ true
+    → gathered vs i fits at ts ≡ record { formed = true; fits = fits && not (any (ltb 65535) (map columnValue ts)); values = sets vs i (map capped (map columnValue ts)); at = at + columnBytes * length ts }
+gathered-all [] vs i true at h = let none : at ≡ at + columnBytes * 0 = omega arith in ap (λ (p : ℕ). gathered vs i true p []) none
+gathered-all [] vs i false at h = let none : at ≡ at + columnBytes * 0 = omega arith in ap (λ (p : ℕ). gathered vs i false p []) none
+gathered-all (t ∷ ts) vs i fits at h =
     let both = split-and (isColumn t) (all isColumn ts) h in
     let v = columnValue t in
-    rw (both .0, gathered-all ts (set vs i (capped v)) (i + 1) (cond (ltb 65535 v) false fits) (both .1), fit-more fits (ltb 65535 v) (any (ltb 65535) (map columnValue ts)), add-one i)
+    let past : at + columnBytes + columnBytes * length ts ≡ at + columnBytes * length (t ∷ ts) = omega arith in
+    rw (both .0, gathered-all ts (set vs i (capped v)) (i + 1) (cond (ltb 65535 v) false fits) (at + columnBytes) (both .1), fit-more fits (ltb 65535 v) (any (ltb 65535) (map columnValue ts)), add-one i, past)
 
-pub gathered-spoilt : (ts : List (List ℕ)) (vs : List ℕ) (i : ℕ) (fits : Bool) → all isColumn ts ≡ false → gathered vs i fits ts ≡ spoiltColumns
-gathered-spoilt [] vs i fits h = absurd (let z : _≡_ {A = ℕ} 0 1 = cc in omega arith)
-gathered-spoilt (t ∷ ts) vs i fits h = spoilt-cases (isColumn t) (all isColumn ts) _ h (gathered-spoilt ts (set vs i (capped (columnValue t))) (i + 1) (cond (ltb 65535 (columnValue t)) false fits))
+pub gathered-spoilt : (ts : List (List ℕ)) (vs : List ℕ) (i : ℕ) (fits : Bool) (at : ℕ) → all isColumn ts ≡ false → (gathered vs i fits at ts) .formed ≡ false
+gathered-spoilt [] vs i fits at h = absurd (let z : _≡_ {A = ℕ} 0 1 = cc in omega arith)
+gathered-spoilt (t ∷ ts) vs i fits at h = spoilt-cases (isColumn t) (all isColumn ts) _ h (gathered-spoilt ts (set vs i (capped (columnValue t))) (i + 1) (cond (ltb 65535 (columnValue t)) false fits) (at + columnBytes))
   where
-    spoilt-cases : (p q : Bool) (g : Columns) → p && q ≡ false → (q ≡ false → g ≡ spoiltColumns) → cond p g spoiltColumns ≡ spoiltColumns
+    spoilt-cases : (p q : Bool) (g : Columns) → p && q ≡ false → (q ≡ false → g .formed ≡ false) → (cond p g (spoiltColumns at)) .formed ≡ false
     spoilt-cases true q g h k = k h
     spoilt-cases false q g h k = refl
 
+-- how far they were read, whatever they are
+pub gathered-at : (s vs : List ℕ) (i : ℕ) (fits : Bool) (at k : ℕ) → (gathered vs i fits at (columnsAt s at k)) .at ≡ pastColumns s at k
+gathered-at s vs i fits at zero = refl
+gathered-at s vs i fits at (suc k) =
+    let v = columnValue (take columnBytes (drop at s)) in
+    cases (isColumn (take columnBytes (drop at s))) _ _ (gathered-at s (set vs i (capped v)) (i + 1) (cond (ltb 65535 v) false fits) (at + columnBytes) k)
+  where
+    cases : (t : Bool) (g : Columns) (p : ℕ) → g .at ≡ p → (cond t g (spoiltColumns at)) .at ≡ cond t p at
+    cases true g p e = e
+    cases false g p e = refl
+
 -- one more column: stored, or the reading ends
 pub gathered-more : (s vs : List ℕ) (p k i : ℕ) (fits : Bool) (v : ℕ) → cellOf (take columnBytes (drop p s)) ≡ Value v
-    → gathered vs i fits (columnsAt s p (suc k)) ≡ gathered (set vs i (capped v)) (i + 1) (cond (ltb 65535 v) false fits) (columnsAt s (p + 6) k)
-gathered-more s vs p k i fits v e = cases (isColumn (take columnBytes (drop p s))) _ _ (λ (w : ℕ). gathered (set vs i (capped w)) (i + 1) (cond (ltb 65535 w) false fits) (columnsAt s (p + 6) k)) e
+    → gathered vs i fits p (columnsAt s p (suc k)) ≡ gathered (set vs i (capped v)) (i + 1) (cond (ltb 65535 v) false fits) (p + 6) (columnsAt s (p + 6) k)
+gathered-more s vs p k i fits v e = cases (isColumn (take columnBytes (drop p s))) _ _ (λ (w : ℕ). gathered (set vs i (capped w)) (i + 1) (cond (ltb 65535 w) false fits) (p + 6) (columnsAt s (p + 6) k)) e
   where
-    cases : (t : Bool) (w v : ℕ) (g : ℕ → Columns) → cond t (Value w) Unread ≡ Value v → cond t (g w) spoiltColumns ≡ g v
+    cases : (t : Bool) (w v : ℕ) (g : ℕ → Columns) → cond t (Value w) Unread ≡ Value v → cond t (g w) (spoiltColumns p) ≡ g v
     cases true w v g e = ap g cc
     cases false w v g e = absurd (let z : _≡_ {A = ℕ} 0 1 = cc in omega arith)
 
-pub gathered-stop : (s vs : List ℕ) (p k i : ℕ) (fits : Bool) → cellOf (take columnBytes (drop p s)) ≡ Unread → gathered vs i fits (columnsAt s p (suc k)) ≡ spoiltColumns
+pub gathered-stop : (s vs : List ℕ) (p k i : ℕ) (fits : Bool) → cellOf (take columnBytes (drop p s)) ≡ Unread → gathered vs i fits p (columnsAt s p (suc k)) ≡ spoiltColumns p
 gathered-stop s vs p k i fits e = cases (isColumn (take columnBytes (drop p s))) (columnValue (take columnBytes (drop p s))) _ e
   where
-    cases : (t : Bool) (w : ℕ) (g : Columns) → cond t (Value w) Unread ≡ Unread → cond t g spoiltColumns ≡ spoiltColumns
+    cases : (t : Bool) (w : ℕ) (g : Columns) → cond t (Value w) Unread ≡ Unread → cond t g (spoiltColumns p) ≡ spoiltColumns p
     cases true w g e = absurd (let z : _≡_ {A = ℕ} 0 1 = cc in omega arith)
     cases false w g e = refl
 

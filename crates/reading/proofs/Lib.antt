@@ -1,4 +1,6 @@
 pub mod ColumnLaws
+pub mod ReaderCases
+pub mod ReaderLaws
 pub mod LineLaws
 pub mod LineUses
 pub mod EndLaws

@@ -7,16 +7,18 @@ use native.Mathlib.Omega.{arith}
 use lib.Dec.{eqb, ltb, leb}
 use lib.ListN.{length, take, drop, getD, replicate, length-map, length-drop}
 use lib.Seq.{sets, sets-eq, take-append-add, drop-drop}
-use borrow.Author.Tests.{lt-leb, le-leb, eq-eqb, ne-eqb, not-true, not-false}
+use borrow.Author.Tests.{lt-ltb, lt-leb, le-leb, eq-eqb, ne-eqb, not-true, not-false}
 use Rattle.matching.specs.Lists.{all, any}
-use Rattle.rules.specs.InputLines.{isColumn, columnValue, letterOf, columnCount, columnsFrom, allowed, wellFormed, values, lineRefusal}
+use Rattle.rules.specs.InputLines.{columnBytes, isColumn, columnValue, letterOf, columnCount, columnsFrom, allowed, wellFormed, values, lineRefusal}
 use Rattle.rules.specs.Letters.{Letter, letterS, letterA, letterW, letterP, letterX, letterNamed}
 use Rattle.reading.specs.declared.Kind.{Kind}
 use Rattle.reading.specs.declared.Kind.the-variants.{Open, Accept, Withdraw, Print, Malformed, TooLarge}
 use Rattle.reading.specs.declared.Columns.{Columns}
 use Rattle.reading.specs.Reading.{kindRefusal, kindOf, classOf, mostColumns, tenColumns, refusedLine, lineOf}
+use Rattle.reading.specs.Reader.{afterLetter, afterColumns}
 use Rattle.reading.specs.Machine.{columnsAt, capped, gathered}
-use Rattle.reading.proofs.ColumnLaws.{gathered-all, gathered-spoilt, length-columnsAt}
+use Rattle.reading.proofs.ColumnLaws.{gathered-all, gathered-spoilt, gathered-at, length-columnsAt}
+use Rattle.reading.proofs.ReaderLaws.{letter-stays, columns-passed}
 
 -- ---- a line's answer, by its form and its numbers
 
@@ -152,20 +154,20 @@ module _ (x : ℕ) (s : List ℕ) (at c : ℕ) (even : length (drop at s) ≡ 6 
 
   -- by what was gathered of the columns
   abbrev read : Columns
-  read = gathered (zeros mostColumns) 0 true (columnsAt s at c)
+  read = gathered (zeros mostColumns) 0 true at (columnsAt s at c)
 
   columns-formed : read .formed ≡ true → all isColumn (columnsAt s at c) ≡ true
   columns-formed h = cases (all isColumn (columnsAt s at c)) refl
     where
       cases : (t : Bool) → all isColumn (columnsAt s at c) ≡ t → t ≡ true
       cases true e = refl
-      cases false e = sym (ap (λ (r : Columns). r .formed) (gathered-spoilt (columnsAt s at c) (zeros mostColumns) 0 true e)) ∙ h
+      cases false e = sym (gathered-spoilt (columnsAt s at c) (zeros mostColumns) 0 true at e) ∙ h
 
   columns-spoilt : read .formed ≡ false → all isColumn (columnsAt s at c) ≡ false
   columns-spoilt h = cases (all isColumn (columnsAt s at c)) refl
     where
       cases : (t : Bool) → all isColumn (columnsAt s at c) ≡ t → t ≡ false
-      cases true e = sym (ap (λ (r : Columns). r .formed) (gathered-all (columnsAt s at c) (zeros mostColumns) 0 true e)) ∙ h
+      cases true e = sym (ap (λ (r : Columns). r .formed) (gathered-all (columnsAt s at c) (zeros mostColumns) 0 true at e)) ∙ h
       cases false e = refl
 
   spoilt-malformed : allowed (letterNamed x) c ≡ true → read .formed ≡ false → lineOf (x ∷ drop at s) ≡ refusedLine Malformed
@@ -175,8 +177,8 @@ module _ (x : ℕ) (s : List ℕ) (at c : ℕ) (even : length (drop at s) ≡ 6 
     well : wellFormed (x ∷ drop at s) ≡ true
     well = formed-is ∙ ap₂ (λ (p q : Bool). p && q) a (columns-formed f)
 
-    told : read ≡ record { formed = true; fits = not (any (ltb 65535) (map columnValue (columnsAt s at c))); values = sets (zeros mostColumns) 0 (map capped (map columnValue (columnsAt s at c))) }
-    told = gathered-all (columnsAt s at c) (zeros mostColumns) 0 true (columns-formed f)
+    told : read ≡ record { formed = true; fits = not (any (ltb 65535) (map columnValue (columnsAt s at c))); values = sets (zeros mostColumns) 0 (map capped (map columnValue (columnsAt s at c))); at = at + columnBytes * length (columnsAt s at c) }
+    told = gathered-all (columnsAt s at c) (zeros mostColumns) 0 true at (columns-formed f)
 
     fits-is : read .fits ≡ not (any (ltb 65535) (values (x ∷ drop at s)))
     fits-is = ap (λ (r : Columns). r .fits) told ∙ ap (λ (vs : List ℕ). not (any (ltb 65535) vs)) (sym values-are)
@@ -217,15 +219,21 @@ module _ {x : ℕ} {s : List ℕ} {at left : ℕ} {kind : Kind} {number : ℕ} (
       let told = refused-class (letterNamed x) (left / 6) (λ e. h (number-is ∙ e)) in
       ap refusedLine (k .class ∙ told .0) ∙ sym (letter-malformed x s at (left / 6) whole few-columns (told .1))
 
-  module _ (taken : number ≡ 0) {r : Columns} (gave : r ≡ gathered (zeros mostColumns) 0 true (columnsAt s at (left / 6))) where
+  pub kind-stays : (number ≡ 0 → ⊥) → at ≡ afterColumns x s at
+  kind-stays h = letter-stays x s at left (k .measured) (refused-class (letterNamed x) (left / 6) (λ e. h (number-is ∙ e)) .1)
+
+  module _ (taken : number ≡ 0) {r : Columns} (gave : r ≡ gathered (zeros mostColumns) 0 true at (columnsAt s at (left / 6))) where
     class-told : (classOf (letterNamed x) (left / 6) ≡ kindOf (letterNamed x)) × (allowed (letterNamed x) (left / 6) ≡ true)
     class-told = taken-class (letterNamed x) (left / 6) (sym number-is ∙ taken)
 
-    gave-formed : {t : Bool} → r .formed ≡ t → (gathered (zeros mostColumns) 0 true (columnsAt s at (left / 6))) .formed ≡ t
+    gave-formed : {t : Bool} → r .formed ≡ t → (gathered (zeros mostColumns) 0 true at (columnsAt s at (left / 6))) .formed ≡ t
     gave-formed e = sym (ap (λ (r : Columns). r .formed) gave) ∙ e
 
-    gave-fits : {t : Bool} → r .fits ≡ t → (gathered (zeros mostColumns) 0 true (columnsAt s at (left / 6))) .fits ≡ t
+    gave-fits : {t : Bool} → r .fits ≡ t → (gathered (zeros mostColumns) 0 true at (columnsAt s at (left / 6))) .fits ≡ t
     gave-fits e = sym (ap (λ (r : Columns). r .fits) gave) ∙ e
+
+    pub columns-stop : r .at ≡ afterColumns x s at
+    columns-stop = ap (λ (r : Columns). r .at) gave ∙ gathered-at s (zeros mostColumns) 0 true at (left / 6) ∙ columns-passed x s at left (k .measured) (k .short) (k .even) (class-told .1)
 
     pub spoilt-returned : r .formed ≡ false → refusedLine Malformed ≡ lineOf (x ∷ drop at s)
     spoilt-returned f = sym (spoilt-malformed x s at (left / 6) whole few-columns (class-told .1) (gave-formed f))
@@ -238,8 +246,8 @@ module _ {x : ℕ} {s : List ℕ} {at left : ℕ} {kind : Kind} {number : ℕ} (
         ap₂ (λ (m : Kind) (w : List ℕ). record { kind = m; count = left / 6; columns = w }) (k .class ∙ class-told .0) (ap (λ (r : Columns). r .values) gave)
         ∙ sym (line-read x s at (left / 6) whole few-columns (class-told .1) (gave-formed f) (gave-fits h))
 
--- ---- a line is its first byte and what stands after it; an empty one is refused as a lone 0 is
-pub from-first : (l : List ℕ) → lineOf (getD l 0 0 ∷ drop 1 l) ≡ lineOf l
+-- ---- a line is its letter and what stands after it; an empty one is refused as a lone 0 is
+pub from-letter : (l : List ℕ) → lineOf (getD l 0 0 ∷ drop (afterLetter l 0) l) ≡ lineOf l
 unfolding lineOf lineRefusal wellFormed values letterNamed
-from-first [] = refl
-from-first (x ∷ xs) = refl
+from-letter [] = refl
+from-letter (x ∷ xs) = ap (λ (t : Bool). lineOf (x ∷ drop (cond t 1 0) (x ∷ xs))) (lt-ltb 0 (suc (length xs)) (omega arith))

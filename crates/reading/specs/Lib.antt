@@ -1,3 +1,4 @@
 pub mod Reading
+pub mod Reader
 pub mod Machine
 pub mod Ends

@@ -50,10 +50,12 @@ columnsAt s at (suc k) = take columnBytes (drop at s) ∷ columnsAt s (at + colu
 abbrev pub capped : ℕ → ℕ
 capped v = cond (ltb 65535 v) 0 v
 
-abbrev pub spoiltColumns : Columns
-spoiltColumns = record { formed = false; fits = false; values = replicate mostColumns 0 }
+-- the column at `at` is none
+abbrev pub spoiltColumns : ℕ → Columns
+spoiltColumns at = record { formed = false; fits = false; values = replicate mostColumns 0; at = at }
 
--- the columns left, after those that were stored up to place i
-abbrev pub gathered : List ℕ → ℕ → Bool → List (List ℕ) → Columns
-gathered vs i fits [] = record { formed = true; fits = fits; values = vs }
-gathered vs i fits (t ∷ ts) = cond (isColumn t) (gathered (set vs i (capped (columnValue t))) (i + 1) (cond (ltb 65535 (columnValue t)) false fits) ts) spoiltColumns
+-- the columns left from `at` on, after those that were stored up to place i
+abbrev pub gathered : List ℕ → ℕ → Bool → ℕ → List (List ℕ) → Columns
+gathered vs i fits at [] = record { formed = true; fits = fits; values = vs; at = at }
+gathered vs i fits at (t ∷ ts) =
+    cond (isColumn t) (gathered (set vs i (capped (columnValue t))) (i + 1) (cond (ltb 65535 (columnValue t)) false fits) (at + columnBytes) ts) (spoiltColumns at)

@@ -10,10 +10,23 @@ ghost use lib.ListN.{length, take, drop, getD, replicate};
 ghost use Rattle.rules.specs.InputLines.{columnBytes};
 ghost use Rattle.rules.specs.Letters.{byteOf, letterNamed};
 ghost use Rattle.reading.specs.Reading.{kindGate, kindRefusal, kindLetter, classOf, refusedLine, lineOf, mostColumns};
+ghost use Rattle.reading.specs.Reader.{afterLetter, afterColumns};
 ghost use Rattle.reading.specs.Machine.{stepOf, heldBy, ended, cellOf, columnsAt, capped, gathered};
 use answers::Gate;
 use answers::Refusal;
 use answers::gate_number;
+
+const COLUMN_BYTES: usize = 6;
+
+const MOST_COLUMNS: usize = 10;
+
+// Of the 61 bytes that a line may have, one is its letter.
+const MOST_AFTER_LETTER: usize = 60;
+
+// A column above this is refused by 2.
+const MOST_VALUE: u32 = 65535;
+
+const SPACE: u8 = 32;
 
 // What a line is: one of the four that are known, or refused by 1 or by 2.
 pub enum Kind {
@@ -29,7 +42,7 @@ pub enum Kind {
 pub struct Line {
     pub kind: Kind,
     pub count: usize,
-    pub columns: [u16; 10],
+    pub columns: [u16; MOST_COLUMNS],
 }
 
 // How far the reading of a column has come.
@@ -45,11 +58,24 @@ enum Cell {
     Unread,
 }
 
-// Columns that stand one after another: whether each is a column, and if so whether each is at most 65,535.
+// Columns that stand one after another: whether each is a column, if so whether each is at most 65,535, and how far they were read.
 struct Columns {
     formed: bool,
     fits: bool,
-    values: [u16; 10],
+    values: [u16; MOST_COLUMNS],
+    at: usize,
+}
+
+// A line's letter, and how far it was read.
+struct LetterRead {
+    letter: u8,
+    at: usize,
+}
+
+// A line, and how far it was read.
+struct LineRead {
+    line: Line,
+    at: usize,
 }
 
 // Each letter has its own allowed count of columns.
@@ -119,7 +145,7 @@ fn step(st: State, b: u8) -> State
 {
     match st {
         State::Blank => {
-            if b == 32 {
+            if b == SPACE {
                 return State::Blank;
             }
             if b == 48 {
@@ -163,15 +189,15 @@ fn finish(st: State) -> Cell
 fn column(s: &[u8], at: usize) -> Cell
     ensures { λ r. ⌜ r ≡ cellOf (take columnBytes (drop at (now (s .entry)))) ⌝ }
 {
-    if s.len() < 6 {
+    if s.len() < COLUMN_BYTES {
         return Cell::Unread;
     }
-    if s.len() - 6 < at {
+    if s.len() - COLUMN_BYTES < at {
         return Cell::Unread;
     }
     let mut st = State::Blank;
     let mut i: usize = 0;
-    while i < 6 {
+    while i < COLUMN_BYTES {
         st = step(st, s[at + i]);
         i += 1;
     }
@@ -181,7 +207,7 @@ fn column(s: &[u8], at: usize) -> Cell
 fn cap(v: u32) -> u16
     ensures { λ r. ⌜ r ≡ capped v ⌝ }
 {
-    if 65535 < v {
+    if MOST_VALUE < v {
         return 0;
     }
     v as u16
@@ -190,9 +216,9 @@ fn cap(v: u32) -> u16
 // The next `count` columns from `at` on.
 fn columns_at(s: &[u8], at: usize, count: usize) -> Columns
     requires { ⌜ (count ≤ mostColumns) × (columnBytes * count ≤ length (now s) - at) ⌝ }
-    ensures { λ r. ⌜ r ≡ gathered (replicate mostColumns 0) 0 true (columnsAt (now (s .entry)) at count) ⌝ }
+    ensures { λ r. ⌜ r ≡ gathered (replicate mostColumns 0) 0 true at (columnsAt (now (s .entry)) at count) ⌝ }
 {
-    let mut values = [0u16; 10];
+    let mut values = [0u16; MOST_COLUMNS];
     let mut fits = true;
     let mut p = at;
     let mut i: usize = 0;
@@ -202,30 +228,36 @@ fn columns_at(s: &[u8], at: usize, count: usize) -> Columns
             return Columns {
                 formed: false,
                 fits: false,
-                values: [0u16; 10],
+                values: [0u16; MOST_COLUMNS],
+                at: p,
             };
         };
-        if 65535 < v {
+        if MOST_VALUE < v {
             fits = false;
         }
         values[i] = cap(v);
-        p += 6;
+        p += COLUMN_BYTES;
         i += 1;
     }
     Columns {
         formed: true,
         fits,
         values,
+        at: p,
     }
 }
 
-fn refused(kind: Kind) -> Line
-    ensures { λ r. ⌜ r ≡ refusedLine kind ⌝ }
+// A refused line, read as far as `at`.
+fn refused(kind: Kind, at: usize) -> LineRead
+    ensures { λ r. ⌜ (r .line ≡ refusedLine kind) × (r .at ≡ at) ⌝ }
 {
-    Line {
-        kind,
-        count: 0,
-        columns: [0u16; 10],
+    LineRead {
+        line: Line {
+            kind,
+            count: 0,
+            columns: [0u16; MOST_COLUMNS],
+        },
+        at,
     }
 }
 
@@ -238,47 +270,54 @@ fn left_after(len: usize, at: usize) -> usize
     len - at
 }
 
+// The letter at `at`, or 0 where the line ends before one.
+fn letter_from(s: &[u8], at: usize) -> LetterRead
+    ensures { λ r. ⌜ (r .letter ≡ getD (now (s .entry)) at 0) × (r .at ≡ afterLetter (now (s .entry)) at) ⌝ }
+{
+    if at < s.len() {
+        return LetterRead {
+            letter: s[at],
+            at: at + 1,
+        };
+    }
+    LetterRead { letter: 0, at }
+}
+
 // The line of this letter whose columns are the bytes from `at` on. Its form, the whole of it, comes before its numbers.
-fn line_from(s: &[u8], at: usize, letter: u8) -> Line
-    ensures { λ r. ⌜ r ≡ lineOf (letter ∷ drop at (now (s .entry))) ⌝ }
+fn line_from(s: &[u8], at: usize, letter: u8) -> LineRead
+    ensures { λ r. ⌜ (r .line ≡ lineOf (letter ∷ drop at (now (s .entry)))) × (r .at ≡ afterColumns letter (now (s .entry)) at) ⌝ }
 {
     let left = left_after(s.len(), at);
-    if 60 < left {
-        return refused(Kind::Malformed);
+    if MOST_AFTER_LETTER < left {
+        return refused(Kind::Malformed, at);
     }
-    if left % 6 != 0 {
-        return refused(Kind::Malformed);
+    if left % COLUMN_BYTES != 0 {
+        return refused(Kind::Malformed, at);
     }
-    let count = left / 6;
+    let count = left / COLUMN_BYTES;
     let kind = classify(letter, count);
     if refusal(kind) != 0 {
-        return refused(kind);
+        return refused(kind, at);
     }
     let read = columns_at(s, at, count);
+    let stop = read.at;
     let formed = read.formed;
     if !formed {
-        return refused(Kind::Malformed);
+        return refused(Kind::Malformed, stop);
     }
     let fits = read.fits;
     if !fits {
-        return refused(Kind::TooLarge);
+        return refused(Kind::TooLarge, stop);
     }
     let columns = read.values;
-    Line {
-        kind,
-        count,
-        columns,
+    LineRead {
+        line: Line {
+            kind,
+            count,
+            columns,
+        },
+        at: stop,
     }
-}
-
-// The byte at `at`, or 0 past the end.
-fn byte_at(s: &[u8], at: usize) -> u8
-    ensures { λ r. ⌜ r ≡ getD (now (s .entry)) at 0 ⌝ }
-{
-    if at < s.len() {
-        return s[at];
-    }
-    0
 }
 
 // A line's bytes, and how far the reading has come.
@@ -293,32 +332,33 @@ fn start<'a>(line: &'a [u8]) -> LineReader<'a>
     LineReader { line, at: 0 }
 }
 
-// The byte where the reader stands.
-fn letter<'a>(r: LineReader<'a>) -> u8
-    ensures { λ b. ⌜ b ≡ getD (now (r .entry .line)) (r .entry .at) 0 ⌝ }
+// The byte where the reader stands; it moves past it.
+fn take_letter<'s, 'a>(r: &'s mut LineReader<'a>) -> u8
+    ensures { λ b. ⌜ (b ≡ getD (now (now (r .entry) .line)) (now (r .entry) .at) 0)
+        × (now (r .exit) .line ≡ now (r .entry) .line)
+        × (now (r .exit) .at ≡ afterLetter (now (now (r .entry) .line)) (now (r .entry) .at)) ⌝ }
 {
-    byte_at(r.line, r.at)
+    let read = letter_from(r.line, r.at);
+    r.at = read.at;
+    read.letter
 }
 
-// The reader, come as far as `at`.
-fn moved<'a>(r: LineReader<'a>, at: usize) -> LineReader<'a>
-    ensures { λ q. ⌜ (q .line ≡ r .entry .line) × (q .at ≡ at) ⌝ }
+// The line of this letter whose columns are all that is left. The reader moves past the columns that were read: after a refusal it stands where reading stopped.
+fn take_columns<'s, 'a>(r: &'s mut LineReader<'a>, letter: u8) -> Line
+    ensures { λ t. ⌜ (t ≡ lineOf (letter ∷ drop (now (r .entry) .at) (now (now (r .entry) .line))))
+        × (now (r .exit) .line ≡ now (r .entry) .line)
+        × (now (r .exit) .at ≡ afterColumns letter (now (now (r .entry) .line)) (now (r .entry) .at)) ⌝ }
 {
-    LineReader { line: r.line, at }
-}
-
-// The line of this letter whose columns are all that is left. The reader is passed by value: whatever the answer, a refusal too, the caller's own stands where it stood.
-fn rest<'a>(r: LineReader<'a>, letter: u8) -> Line
-    ensures { λ t. ⌜ t ≡ lineOf (letter ∷ drop (r .entry .at) (now (r .entry .line))) ⌝ }
-{
-    line_from(r.line, r.at, letter)
+    let read = line_from(r.line, r.at, letter);
+    r.at = read.at;
+    read.line
 }
 
 // A line, given its bytes without the line feed.
 pub fn read_line(line: &[u8]) -> Line
     ensures { λ r. ⌜ r ≡ lineOf (now (line .entry)) ⌝ }
 {
-    let r = start(line);
-    let first = letter(r);
-    rest(moved(r, 1), first)
+    let mut r = start(line);
+    let letter = take_letter(&mut r);
+    take_columns(&mut r, letter)
 }

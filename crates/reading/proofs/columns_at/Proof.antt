@@ -16,7 +16,7 @@ use Rattle.reading.proofs.columns_at.Statement.{statement}
 use Rattle.reading.proofs.columns_at.Tie as tie
 
 abbrev Inv-loop : tie.InvT-loop
-Inv-loop s at count values₀ fits₀ p₀ i₀ values fits p i = (i ≤ count) × (p ≡ at + 6 * i) × (gathered values i fits (columnsAt s p (count - i)) ≡ gathered (replicate mostColumns 0) 0 true (columnsAt s at count))
+Inv-loop s at count values₀ fits₀ p₀ i₀ values fits p i = (i ≤ count) × (p ≡ at + 6 * i) × (gathered values i fits p (columnsAt s p (count - i)) ≡ gathered (replicate mostColumns 0) 0 true at (columnsAt s at count))
 
 abbrev μ-loop : tie.MeasureT-loop
 μ-loop s at count values₀ fits₀ p₀ i₀ values fits p i = count - i
@@ -25,7 +25,7 @@ loop-holds : tie.Need-loop-holds Inv-loop μ-loop
 loop-holds c =
     let args = c .before .args in
     let whole : args .count - 0 ≡ args .count = omega arith in
-    (omega arith, omega arith, ap (λ (k : ℕ). gathered (replicate mostColumns 0) 0 true (columnsAt (now (args .s)) (args .at) k)) whole)
+    (omega arith, omega arith, ap (λ (k : ℕ). gathered (replicate mostColumns 0) 0 true (args .at) (columnsAt (now (args .s)) (args .at) k)) whole)
 
 column-requires : tie.Need-column-requires Inv-loop μ-loop
 column-requires c κs = search needs
@@ -45,7 +45,7 @@ returns c =
     let one : count - i ≡ suc (count - (i + 1)) = omega arith in
     let p = looped .loop .p in
     sym (gathered-stop s (looped .loop .values) p (count - (i + 1)) i (looped .loop .fits) (sym (c .before .before .column .ensures) ∙ c .enum-told .given .1))
-    ∙ sym (ap (λ (k : ℕ). gathered (looped .loop .values) i (looped .loop .fits) (columnsAt s p k)) one) ∙ looped .loop .inv .2
+    ∙ sym (ap (λ (k : ℕ). gathered (looped .loop .values) i (looped .loop .fits) p (columnsAt s p k)) one) ∙ looped .loop .inv .2
 
 cap-requires : tie.Need-cap-requires Inv-loop μ-loop
 cap-requires c κs = search needs
@@ -82,8 +82,8 @@ loop-again c =
     let more = gathered-more s vs p (count - (i + 1)) i fits v (sym (read .before .before .column .ensures) ∙ read .cell .given .1) in (
       omega arith,
       omega arith,
-      ap₂ (λ (x : ℕ) (t : Bool). gathered (set vs i x) (i + 1) t (columnsAt s (p + 6) (count - (i + 1)))) (c .cap .ensures) bound
-          ∙ sym more ∙ sym (ap (λ (k : ℕ). gathered vs i fits (columnsAt s p k)) one) ∙ looped .loop .inv .2,
+      ap₂ (λ (x : ℕ) (t : Bool). gathered (set vs i x) (i + 1) t (p + 6) (columnsAt s (p + 6) (count - (i + 1)))) (c .cap .ensures) bound
+          ∙ sym more ∙ sym (ap (λ (k : ℕ). gathered vs i fits p (columnsAt s p k)) one) ∙ looped .loop .inv .2,
     )
 
 returns-2 : tie.Need-returns-2 Inv-loop μ-loop
@@ -92,7 +92,7 @@ returns-2 c =
     let s = now (looped .before .before .args .s) in
     let count = looped .before .before .args .count in
     let none : count - looped .loop .i ≡ 0 = omega arith in
-    sym (ap (λ (k : ℕ). gathered (looped .loop .values) (looped .loop .i) (looped .loop .fits) (columnsAt s (looped .loop .p) k)) none) ∙ looped .loop .inv .2
+    sym (ap (λ (k : ℕ). gathered (looped .loop .values) (looped .loop .i) (looped .loop .fits) (looped .loop .p) (columnsAt s (looped .loop .p) k)) none) ∙ looped .loop .inv .2
 
 pub columns-at-spec : {M : Type 1} → statement M
 columns-at-spec =

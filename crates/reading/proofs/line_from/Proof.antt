@@ -3,7 +3,8 @@ use mathlib.Core.Path.{_∙_}
 use denote.Ref.{now}
 use borrow.Author.Needs.{needs}
 use borrow.Author.Tests.{not-true, not-false}
-use Rattle.reading.proofs.LineLaws.{long-returned, uneven-returned, Known, kind-returned, spoilt-returned, large-returned, line-returned}
+use Rattle.reading.proofs.LineLaws.{long-returned, uneven-returned, Known, kind-returned, kind-stays, columns-stop, spoilt-returned, large-returned, line-returned}
+use Rattle.reading.proofs.ReaderLaws.{long-stays, uneven-stays}
 use Rattle.reading.proofs.line_from.Statement.{statement}
 use Rattle.reading.proofs.line_from.Tie as tie
 use Rattle.reading.proofs.line_from.Reads as reads
@@ -34,7 +35,10 @@ refused-requires c κs = search needs
 returns : tie.Need-returns
 returns c =
     let args = c .before .before .before .before .args in
-    c .refused .ensures ∙ long-returned (args .letter) (now (args .s)) (args .at) _ (c .before .before .left-after .ensures) (c .before .if1 .taken)
+    let measured = c .before .before .left-after .ensures in (
+      c .refused .ensures .0 ∙ long-returned (args .letter) (now (args .s)) (args .at) _ measured (c .before .if1 .taken),
+      c .refused .ensures .1 ∙ long-stays (args .letter) (now (args .s)) (args .at) _ measured (c .before .if1 .taken),
+    )
 
 refused-requires-2 : tie.Need-refused-requires-2
 refused-requires-2 c κs = search needs
@@ -42,7 +46,10 @@ refused-requires-2 c κs = search needs
 returns-2 : tie.Need-returns-2
 returns-2 c =
     let args = c .before .before .before .before .before .args in
-    c .refused2 .ensures ∙ uneven-returned (args .letter) (now (args .s)) (args .at) _ (c .before .before .before .left-after .ensures) (c .before .if2 .taken)
+    let measured = c .before .before .before .left-after .ensures in (
+      c .refused2 .ensures .0 ∙ uneven-returned (args .letter) (now (args .s)) (args .at) _ measured (c .before .if2 .taken),
+      c .refused2 .ensures .1 ∙ uneven-stays (args .letter) (now (args .s)) (args .at) _ measured (c .before .if2 .taken),
+    )
 
 classify-requires : tie.Need-classify-requires
 classify-requires c κs = search needs
@@ -54,7 +61,9 @@ refused-requires-3 : tie.Need-refused-requires-3
 refused-requires-3 c κs = search needs
 
 returns-3 : tie.Need-returns-3
-returns-3 c = c .refused3 .ensures ∙ kind-returned (known (c .before .before)) (c .before .if3 .taken)
+returns-3 c =
+    let k = known (c .before .before) in
+    (c .refused3 .ensures .0 ∙ kind-returned k (c .before .if3 .taken), c .refused3 .ensures .1 ∙ kind-stays k (c .before .if3 .taken))
 
 columns-at-requires : tie.Need-columns-at-requires
 columns-at-requires c κs = search needs
@@ -65,7 +74,10 @@ refused-requires-4 c κs = search needs
 returns-4 : tie.Need-returns-4
 returns-4 c =
     let read = c .before .before in
-    c .refused4 .ensures ∙ spoilt-returned (known (read .before .before)) (read .before .if3 .left) (read .columns-at .ensures) (not-true _ (c .before .if4 .taken))
+    let k = known (read .before .before) in (
+      c .refused4 .ensures .0 ∙ spoilt-returned k (read .before .if3 .left) (read .columns-at .ensures) (not-true _ (c .before .if4 .taken)),
+      c .refused4 .ensures .1 ∙ columns-stop k (read .before .if3 .left) (read .columns-at .ensures),
+    )
 
 refused-requires-5 : tie.Need-refused-requires-5
 refused-requires-5 c κs = search needs
@@ -73,12 +85,18 @@ refused-requires-5 c κs = search needs
 returns-5 : tie.Need-returns-5
 returns-5 c =
     let read = c .before .before .before in
-    c .refused5 .ensures ∙ large-returned (known (read .before .before)) (read .before .if3 .left) (read .columns-at .ensures) (not-false _ (c .before .before .if4 .left)) (not-true _ (c .before .if5 .taken))
+    let k = known (read .before .before) in (
+      c .refused5 .ensures .0 ∙ large-returned k (read .before .if3 .left) (read .columns-at .ensures) (not-false _ (c .before .before .if4 .left)) (not-true _ (c .before .if5 .taken)),
+      c .refused5 .ensures .1 ∙ columns-stop k (read .before .if3 .left) (read .columns-at .ensures),
+    )
 
 returns-6 : tie.Need-returns-6
 returns-6 c =
     let read = c .before .before .before in
-    line-returned (known (read .before .before)) (read .before .if3 .left) (read .columns-at .ensures) (not-false _ (c .before .before .if4 .left)) (not-false _ (c .before .if5 .left))
+    let k = known (read .before .before) in (
+      line-returned k (read .before .if3 .left) (read .columns-at .ensures) (not-false _ (c .before .before .if4 .left)) (not-false _ (c .before .if5 .left)),
+      columns-stop k (read .before .if3 .left) (read .columns-at .ensures),
+    )
 
 pub line-from-spec : {M : Type 1} → statement M
 line-from-spec =
