@@ -44,7 +44,7 @@ countOf (answer.Refused r) = 0
 countOf (answer.Blocked s) = s
 countOf answer.Undecided = 0
 
--- so many work words it shows: "at 12 they begin with the blocked slots". It is `shownBy` of what is said (`ReplyLaws.shown-is`).
+-- so many work words it shows: "at 12 they begin with the blocked slots". It is `shownBy` of what is said (`NumberLaws.shown-is`).
 abbrev pub shownOf : Answer → ℕ
 shownOf (answer.Accepted k) = 0
 shownOf (answer.Refused r) = 0

@@ -32,5 +32,6 @@ pub extern "C" fn slotboard_accept_two(
         Answer::Blocked(s) => s,
         Answer::Accepted(k) => 0,
         Answer::Refused(r) => 0,
+        Answer::Undecided => 0,
     }
 }

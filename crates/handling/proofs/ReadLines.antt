@@ -13,16 +13,17 @@ use Rattle.rules.specs.Known.{Known, performKnown, knownAfter}
 use Rattle.rules.specs.KnownLines.{asked, handleKnown, knownLine}
 use Rattle.rules.specs.Layout.{reads, row8, size}
 use Rattle.rules.specs.InputLines.{letterOf, columnCount, values, lineRefusal, callOf}
+use Rattle.rules.specs.Letters.{Letter, letterS, letterA, letterW, letterP, letterX, byteOf}
 use Rattle.rules.specs.Runs as R
-use Rattle.rules.specs.Runs.{State, unread, answered}
+use Rattle.rules.specs.Runs.{State, unread, firstNumber, answered}
 use Rattle.rules.proofs.WordLaws.{reads-is}
-use Rattle.board.specs.Asking.{callBy}
+use Rattle.board.specs.Requests.{callBy}
 use Rattle.reading.specs.declared.Kind.{Kind}
 use Rattle.reading.specs.declared.Kind.the-variants.{Open, Accept, Withdraw, Print, Malformed, TooLarge}
 use Rattle.reading.specs.declared.Line.{Line}
 use Rattle.reading.specs.Reading.{kindRefusal, kindLetter, tenColumns, lineOf}
 use Rattle.reading.proofs.LineUses.{line-taken, line-refused, kind-refusal, kind-letter, value-count, most-ten, first-column, slot-row}
-use Rattle.handling.specs.Lines.{askOf, lineCall}
+use Rattle.handling.specs.Turns.{askOf, lineCall}
 
 -- ---- the row of an order: the eight words after the first of ten
 
@@ -30,6 +31,18 @@ pub row-is : (l : List ℕ) → length l ≡ 10 → reads l 1 8 ≡ take 8 (drop
 row-is l h =
     let eight : length (take 8 (drop 1 l)) ≡ 8 = omega (arith, length-take 8 (drop 1 l), length-drop 1 l) in
     subst (λ (k : ℕ). reads l 1 k ≡ take 8 (drop 1 l)) eight (reads-is l 1 (take 8 (drop 1 l)) (λ j low. sym (getD-take 8 (drop 1 l) j 0 (omega arith) ∙ getD-drop 1 l j 0)))
+
+-- ---- of a line's numbers its reply shows the first
+
+first-shown : (x : Letter) (vs us : List ℕ) (r : Answer) → getD vs 0 0 ≡ getD us 0 0 → firstNumber x vs r ≡ firstNumber x us r
+first-shown letterS vs us r e = e
+first-shown letterA vs us r e = e
+first-shown letterW vs us r e = e
+first-shown letterP vs us r e = refl
+first-shown letterX vs us r e = refl
+
+answered-first : (x : Letter) (vs us : List ℕ) → getD vs 0 0 ≡ getD us 0 0 → (s : State) (r : Answer) → answered x vs s r ≡ answered x us s r
+answered-first x vs us e s r = ap (λ (m : ℕ). record { reply = record { letter = byteOf x; number = m; refusal = r .refusal; count = r .count }; state = answered x vs s r .state }) (first-shown x vs us r e)
 
 -- ---- a line as the reader gave it
 
@@ -86,14 +99,15 @@ module _ (l : List ℕ) (read : Line) (is : read ≡ lineOf l) where
     call-is : lineCall (askOf (read .kind)) read ≡ asked l
     call-is =
         (λ i. callBy (askOf (read .kind)) (number-is i) (count-is i - 1) (row-same i))
-        ∙ by-kind (read .kind) taken ∙ ap (λ (x : ℕ). callOf x (values l)) letter-is
+        ∙ by-kind (read .kind) taken ∙ ap (λ (x : Letter). callOf x (values l)) letter-is
 
     pub read-as : (k : Known) (s : State) (h : R.Handled) → h ≡ answered (kindLetter (read .kind)) (read .columns) s (performKnown k (lineCall (askOf (read .kind)) read) (s .board) (s .work)) → h ≡ handleKnown k l s
     unfolding handleKnown
     read-as k s h e =
         rw fine (e
-        ∙ (λ i. answered (letter-is i) (number-is i ∷ []) s (performKnown k (call-is i) (s .board) (s .work))))
+        ∙ answered-first (kindLetter (read .kind)) (read .columns) (values l) number-is s (performKnown k (lineCall (askOf (read .kind)) read) (s .board) (s .work))
+        ∙ (λ i. answered (letter-is i) (values l) s (performKnown k (call-is i) (s .board) (s .work))))
 
-    pub read-known : (k : Known) (s : State) (r : Known) → r ≡ knownAfter k (lineCall (askOf (read .kind)) read) (size (s .board)) (performKnown k (lineCall (askOf (read .kind)) read) (s .board) (s .work)) (length (s .work)) → r ≡ knownLine k l s
+    pub read-known : (k : Known) (s : State) (r : Known) → r ≡ knownAfter k (lineCall (askOf (read .kind)) read) (s .board) (s .work) → r ≡ knownLine k l s
     unfolding knownLine
-    read-known k s r e = rw fine (e ∙ ap (λ (q : Call). knownAfter k q (size (s .board)) (performKnown k q (s .board) (s .work)) (length (s .work))) call-is)
+    read-known k s r e = rw fine (e ∙ ap (λ (q : Call). knownAfter k q (s .board) (s .work)) call-is)

@@ -2,18 +2,21 @@
 ghost use mathlib.Core.Path.{_≡_};
 ghost use mathlib.Core.Bool.{cond};
 ghost use Prim.Native.Nat.{_-_, _≤_};
-ghost use lib.Dec.{eqb};
 ghost use lib.ListN.{getD, take, drop};
-ghost use Rattle.rules.specs.Layout.{heldCount};
-ghost use Rattle.rules.specs.InputLines.{letterP};
+ghost use Rattle.rules.specs.Layout.{mostChoices, heldCount};
 ghost use Rattle.rules.specs.Runs.{handleLine};
-ghost use Rattle.answers.specs.Handling.{stateOf, handledOf};
-ghost use Rattle.board.specs.Asking.{callFor};
-ghost use Rattle.handling.specs.Lines.{Turns, askOf, lineCall, Asks, NotRead};
+ghost use Rattle.answers.specs.Numbers.{code};
+ghost use Rattle.answers.specs.Values.{stateOf, handledOf};
+ghost use Rattle.board.specs.Requests.{callFor};
+ghost use Rattle.reading.specs.Reading.{kindLetter, mostColumns};
+ghost use Rattle.handling.specs.Turns.{Turns, askOf, lineCall, numberShown, Asks, NotRead};
+use answers::Gate;
 use answers::Handled;
+use answers::Refusal;
 use answers::Reply;
 use answers::Tally;
-use answers::replied_as;
+use answers::refusal_of;
+use answers::replied;
 use answers::unread_line;
 use board::Ask;
 use board::Request;
@@ -23,11 +26,9 @@ use checking::assess;
 use reading::Kind;
 use reading::Line;
 use reading::answer_letter;
+use reading::gate_of;
 use reading::read_line;
-use reading::refusal as refusal_of;
-use words::word_at;
-
-const HELD: usize = 1;
+use words::held_of;
 
 // The reply to a line, and what is known after it.
 pub struct Noted {
@@ -41,6 +42,7 @@ pub struct Turned {
     pub tally: Tally,
 }
 
+// A line that is not read asks nothing; a print stands for it.
 fn ask_of(kind: Kind) -> Ask
     ensures { λ r. ⌜ r ≡ askOf kind ⌝ }
 {
@@ -54,9 +56,15 @@ fn ask_of(kind: Kind) -> Ask
     }
 }
 
+fn first_of(columns: [u16; 10]) -> u16
+    ensures { λ r. ⌜ r ≡ getD columns 0 0 ⌝ }
+{
+    columns[0]
+}
+
 // The columns after the number, up to eight of them.
 fn row_of(columns: [u16; 10]) -> [u16; 8]
-    ensures { λ r. ⌜ r ≡ take 8 (drop 1 columns) ⌝ }
+    ensures { λ r. ⌜ r ≡ take mostChoices (drop 1 columns) ⌝ }
 {
     [
         columns[1],
@@ -72,7 +80,7 @@ fn row_of(columns: [u16; 10]) -> [u16; 8]
 
 // The columns after the number are the choices.
 fn choices(count: usize) -> u16
-    requires { ⌜ count ≤ 10 ⌝ }
+    requires { ⌜ count ≤ mostColumns ⌝ }
     ensures { λ r. ⌜ r ≡ count - 1 ⌝ }
 {
     if count == 0 {
@@ -82,11 +90,11 @@ fn choices(count: usize) -> u16
 }
 
 fn request_of(ask: Ask, l: Line) -> Request
-    requires { ⌜ l .count ≤ 10 ⌝ }
+    requires { ⌜ l .count ≤ mostColumns ⌝ }
     ensures { λ r. ⌜ callFor r ≡ lineCall ask l ⌝ }
 {
     let columns = l.columns;
-    let number = columns[0];
+    let number = first_of(columns);
     let count = choices(l.count);
     let row = row_of(columns);
     Request {
@@ -97,45 +105,49 @@ fn request_of(ask: Ask, l: Line) -> Request
     }
 }
 
-// P shows the orders held, 0 if refused; any other line its first number.
-fn shown_number(letter: u8, number: u16, refusal: u16, board: &[u16]) -> u16
-    ensures { λ r. ⌜ r ≡ cond (eqb letter letterP) (cond (eqb refusal 0) (heldCount (now (board .entry))) 0) number ⌝ }
+fn held_if(ok: bool, board: &[u16]) -> u16
+    ensures { λ r. ⌜ r ≡ cond ok (heldCount (now (board .entry))) 0 ⌝ }
 {
-    if letter != b'P' {
-        return number;
+    if ok {
+        return held_of(board);
     }
-    if refusal != 0 {
-        return 0;
-    }
-    word_at(board, HELD)
+    0
 }
 
-fn first_of(columns: [u16; 10]) -> u16
-    ensures { λ r. ⌜ r ≡ getD columns 0 0 ⌝ }
+// The number that the answer line shows: P shows the orders held, 0 if refused; any other line its first number.
+fn shown_number(kind: Kind, number: u16, ok: bool, board: &[u16]) -> u16
+    ensures { λ r. ⌜ r ≡ numberShown (kindLetter kind) number ok (heldCount (now (board .entry))) ⌝ }
 {
-    columns[0]
+    match kind {
+        Kind::Open => number,
+        Kind::Accept => number,
+        Kind::Withdraw => number,
+        Kind::Print => held_if(ok, board),
+        Kind::Malformed => 0,
+        Kind::TooLarge => 0,
+    }
 }
 
 // A line that is read.
 fn asked_line(
-    letter: u8,
-    ask: Ask,
+    kind: Kind,
     l: Line,
     board: &mut [u16],
     work: &mut [u16],
     t: Tally,
     known: Known,
 ) -> Turned
-    requires { ⌜ l .count ≤ 10 ⌝ }
-    ensures { λ r. ⌜ Asks letter ask l known (now (board .entry)) (now (work .entry)) t r (now (board .exit)) (now (work .exit)) ⌝ }
+    requires { ⌜ l .count ≤ mostColumns ⌝ }
+    ensures { λ r. ⌜ Asks kind l known (now (board .entry)) (now (work .entry)) t r (now (board .exit)) (now (work .exit)) ⌝ }
 {
-    let q = request_of(ask, l);
+    let q = request_of(ask_of(kind), l);
     let p = perform(q, board, work, known);
-    let numbers = p.numbers;
+    let answer = p.answer;
     let after = p.known;
     let columns = l.columns;
-    let number = shown_number(letter, first_of(columns), numbers.refusal, board);
-    let h = replied_as(letter, number, numbers.refusal, numbers.count, t);
+    let ok = refusal_of(answer) == 0;
+    let number = shown_number(kind, first_of(columns), ok, board);
+    let h = replied(answer_letter(kind), number, answer, t);
     let reply = h.reply;
     let tally = h.tally;
     let noted = Noted {
@@ -146,18 +158,18 @@ fn asked_line(
 }
 
 // A line that is not read.
-fn not_read(refusal: u16, t: Tally, known: Known) -> Turned
-    ensures { λ r. ⌜ NotRead refusal known t r ⌝ }
+fn not_read(why: Refusal, t: Tally, known: Known) -> Turned
+    ensures { λ r. ⌜ NotRead (code why) known t r ⌝ }
 {
-    let h = unread_line(refusal, t);
+    let h = unread_line(why, t);
     let reply = h.reply;
     let tally = h.tally;
     let noted = Noted { reply, known };
     Turned { noted, tally }
 }
 
-// A line, without its line feed.
-pub fn handle_known(
+// A line, without its line feed, by what is known.
+fn handle_known(
     line: &[u8],
     board: &mut [u16],
     work: &mut [u16],
@@ -168,17 +180,19 @@ pub fn handle_known(
 {
     let l = read_line(line);
     let kind = l.kind;
-    let refusal = refusal_of(kind);
-    if refusal != 0 {
-        return not_read(refusal, tally, known);
+    let gate = gate_of(kind);
+    match gate {
+        Gate::Refused(why) => {
+            return not_read(why, tally, known);
+        }
+        Gate::Passed => {
+            return asked_line(kind, l, board, work, tally, known);
+        }
     }
-    let letter = answer_letter(kind);
-    let ask = ask_of(kind);
-    asked_line(letter, ask, l, board, work, tally, known)
 }
 
 // The same with the tally lent: it is brought up to date.
-pub fn handle_line(
+pub fn handle_next(
     line: &[u8],
     board: &mut [u16],
     work: &mut [u16],
@@ -203,7 +217,7 @@ pub fn tallied(
     ensures { λ r. ⌜ Turns (now (line .entry)) known (stateOf (now (board .entry)) (now (work .entry)) tally) (r .noted) (r .tally) (now (board .exit)) (now (work .exit)) ⌝ }
 {
     let mut day = tally;
-    let noted = handle_line(line, board, work, &mut day, known);
+    let noted = handle_next(line, board, work, &mut day, known);
     Turned { noted, tally: day }
 }
 
@@ -218,4 +232,14 @@ pub fn handle(line: &[u8], board: &mut [u16], work: &mut [u16], tally: Tally) ->
     let reply = noted.reply;
     let day = t.tally;
     Handled { reply, tally: day }
+}
+
+// The same with the day's tally lent: it is brought up to date.
+pub fn handle_line(line: &[u8], board: &mut [u16], work: &mut [u16], tally: &mut Tally) -> Reply
+    ensures { λ r. ⌜ handledOf (record { reply = r; tally = now (tally .exit) }) (now (board .exit)) (now (work .exit))
+        ≡ handleLine (now (line .entry)) (stateOf (now (board .entry)) (now (work .entry)) (now (tally .entry))) ⌝ }
+{
+    let h = handle(line, board, work, *tally);
+    *tally = h.tally;
+    h.reply
 }

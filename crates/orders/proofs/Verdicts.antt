@@ -1,4 +1,4 @@
--- The verdict, and what a caller checks after it.
+-- The verdict on an order, and what a caller checks after it.
 use mathlib.Core.Path.{_≡_, sym, ap, _∙_}
 use mathlib.Core.Bool.{Bool, cond}
 use mathlib.Core.List.{List, []}
@@ -7,26 +7,21 @@ use native.Mathlib.Omega.{arith}
 use borrow.Author.Tests.{ne-eqb}
 use lib.Dec.{eqb}
 use Rattle.rules.specs.Calls.{Check, first, orderChecks}
+use Rattle.rules.specs.Layout.{mostChoices}
 use Rattle.rules.proofs.Checks.{clear-all, first-order, order-named, order-count}
-use Rattle.orders.specs.Verdict.{faultNumber}
-use Rattle.orders.specs.declared.Fault.{Fault}
-use Rattle.orders.specs.declared.Fault.the-variants.{NumberZero, BadCount, OffBoard, NotRising}
-
-pub fault-some : (f : Fault) → 1 ≤ faultNumber f
-fault-some NumberZero = omega arith
-fault-some BadCount = omega arith
-fault-some OffBoard = omega arith
-fault-some NotRising = omega arith
+use Rattle.answers.specs.Numbers.{code}
+use Rattle.answers.specs.declared.Refusal.{Refusal}
+use Rattle.answers.proofs.NumberLaws.{code-some}
 
 module _ (n k c : ℕ) (row : List ℕ) where
   abbrev judged : ℕ
   judged = first (orderChecks n k c row [])
 
   -- a faulty order is turned down, whatever comes after
-  pub faulty : (f : Fault) (more : List Check) → faultNumber f ≡ judged → first (orderChecks n k c row more) ≡ faultNumber f
-  faulty f more e =
+  pub faulty : (r : Refusal) (more : List Check) → code r ≡ judged → first (orderChecks n k c row more) ≡ code r
+  faulty r more e =
       first-order n k c row more ∙ ap (λ (v : ℕ). cond (eqb v 0) (first more) v) (sym e)
-      ∙ ap (λ (b : Bool). cond b (first more) (faultNumber f)) (ne-eqb (faultNumber f) 0 (λ z. omega (arith, fault-some f)))
+      ∙ ap (λ (b : Bool). cond b (first more) (code r)) (ne-eqb (code r) 0 (λ z. omega (arith, code-some r)))
 
   module _ (e : 0 ≡ judged) where
     pub fine : (more : List Check) → first (orderChecks n k c row more) ≡ first more
@@ -35,5 +30,5 @@ module _ (n k c : ℕ) (row : List ℕ) where
     pub fine-named : 1 ≤ k
     fine-named = order-named n k c row [] (clear-all (orderChecks n k c row []) tt (sym e))
 
-    pub fine-count : (1 ≤ c) × (c ≤ 8)
+    pub fine-count : (1 ≤ c) × (c ≤ mostChoices)
     fine-count = order-count n k c row [] (clear-all (orderChecks n k c row []) tt (sym e))

@@ -6,26 +6,21 @@ ghost use lib.ListN.{take};
 ghost use Rattle.matching.specs.Lists.{rising};
 ghost use Rattle.rules.specs.Calls.{first, onBoard, orderChecks};
 ghost use Rattle.rules.specs.Layout.{mostChoices};
-ghost use Rattle.orders.specs.Verdict.{verdictNumber};
+ghost use Rattle.answers.specs.Numbers.{gateNumber};
+use answers::Gate;
+use answers::Refusal;
 
-// Why an order is turned down, in the order of the checks.
-pub enum Fault {
-    NumberZero,
-    BadCount,
-    OffBoard,
-    NotRising,
-}
-
-pub enum Verdict {
-    Fine,
-    Faulty(Fault),
-}
+const MOST_CHOICES: usize = 8;
 
 // How many of a row's eight places `count` takes.
 fn places(count: usize) -> usize
     ensures { λ r. ⌜ r ≡ min count mostChoices ⌝ }
 {
-    if count < 8 { count } else { 8 }
+    if count < MOST_CHOICES {
+        count
+    } else {
+        MOST_CHOICES
+    }
 }
 
 // Each of the first `count` is 1 to n.
@@ -66,25 +61,25 @@ pub fn row_rises(n: u16, count: usize, row: [u16; 8]) -> bool
     true
 }
 
-// The verdict on an order for a board of n slots.
-pub fn judge(n: u16, number: u16, count: u16, row: [u16; 8]) -> Verdict
-    ensures { λ r. ⌜ verdictNumber r ≡ first (orderChecks n number count row []) ⌝ }
+// The verdict on an order for a board of n slots: the first of the checks 7 to 10 that turns it down.
+pub fn judge(n: u16, number: u16, count: u16, row: [u16; 8]) -> Gate
+    ensures { λ r. ⌜ gateNumber r ≡ first (orderChecks n number count row []) ⌝ }
 {
     if number == 0 {
-        return Verdict::Faulty(Fault::NumberZero);
-    }
-    if count == 0 {
-        return Verdict::Faulty(Fault::BadCount);
-    }
-    if 8 < count {
-        return Verdict::Faulty(Fault::BadCount);
+        return Gate::Refused(Refusal::NumberZero);
     }
     let c = count as usize;
+    if c == 0 {
+        return Gate::Refused(Refusal::BadCount);
+    }
+    if MOST_CHOICES < c {
+        return Gate::Refused(Refusal::BadCount);
+    }
     if !row_within(n, c, row) {
-        return Verdict::Faulty(Fault::OffBoard);
+        return Gate::Refused(Refusal::OffBoard);
     }
     if !row_rises(n, c, row) {
-        return Verdict::Faulty(Fault::NotRising);
+        return Gate::Refused(Refusal::NotRising);
     }
-    Verdict::Fine
+    Gate::Passed
 }

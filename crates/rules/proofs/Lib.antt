@@ -1,5 +1,6 @@
 pub mod Letters
 pub mod WordLaws
+pub mod Fronts
 pub mod CheckLaws
 pub mod Accept
 pub mod Checks

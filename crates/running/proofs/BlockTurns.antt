@@ -17,12 +17,11 @@ use Rattle.rules.proofs.Days.{kept-by-lines}
 use Rattle.reading.specs.Ends.{lineEnd}
 use Rattle.writing.proofs.Texts.{sets-start, sets-next}
 use Rattle.answers.specs.declared.Tally.{Tally}
-use Rattle.running.specs.declared.running.Block.{Block}
-use Rattle.running.specs.declared.replies.Placed.{Placed}
-use Rattle.answers.specs.Handling.{stateOf}
-use Rattle.running.specs.Answering.{Answers}
-use Rattle.running.specs.Running.{Leaves}
-use Rattle.running.specs.Turning.{Left, todo, Turning}
+use Rattle.running.specs.declared.Block.{Block}
+use Rattle.running.specs.declared.Placed.{Placed}
+use Rattle.answers.specs.Values.{stateOf}
+use Rattle.running.specs.BlockLoop.{Answered, Left, todo, Turning}
+use Rattle.running.specs.BlockPromise.{Leaves}
 use Rattle.running.proofs.LineEnds.{line-ends, line-clean, line-length, line-split, rest-clean, rest-length}
 
 -- one line done: p is its answer o and then p′
@@ -92,7 +91,7 @@ module _ {input : List ℕ} {ended : Bool} {s₀ : State} {out₀ board work : L
     (h : Turning input ended s₀ out₀ board work t out at e written) where
   -- a line with room for its answer
   pub turn : {out₁ board₁ work₁ : List ℕ} {r : Placed} {e₁ : ℕ} → e < length input → replyRoom ≤ length out - written
-      → Answers (handle (stateOf board work t) (framed (take (e - at) (drop at input)))) out written r board₁ work₁ out₁ → e₁ ≡ lineEnd input (e + 1)
+      → Answered (handle (stateOf board work t) (framed (take (e - at) (drop at input)))) out written r board₁ work₁ out₁ → e₁ ≡ lineEnd input (e + 1)
       → Turning input ended s₀ out₀ board₁ work₁ (r .tally) out₁ (e + 1) e₁ (r .end)
   turn {out₁} {board₁} {work₁} {r} {e₁} lt room x d₁ =
       let d = h .line in
@@ -142,7 +141,7 @@ module _ {input : List ℕ} {ended : Bool} {s₀ : State} {out₀ board work : L
       stays consumed (e - at - waiting) q (at-rest over ∙ rw (y, rest-length input at e (h .line) over)) u (omega (arith, h .line .after, h .line .within))
 
   pub refuses : {r : Block} {out₁ : List ℕ} {p : Placed} → r ≡ record { consumed = e; written = p .end; tally = p .tally } → length input ≤ e → ended ≡ true → replyRoom ≤ length out - written → (e - at ≡ 0 → ⊥)
-      → Answers (handle (stateOf board work t) spoilt) out written p board work out₁ → Leaves input ended s₀ out₀ r board work out₁
+      → Answered (handle (stateOf board work t) spoilt) out written p board work out₁ → Leaves input ended s₀ out₀ r board work out₁
   refuses {r} {out₁} q over y room z x =
       let long = rest-length input at e (h .line) over in
       let one : todo input ended (stateOf board work t) out₀ at written ≡ refusedRest (e - at) (stateOf board work t) =

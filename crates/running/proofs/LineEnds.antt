@@ -9,7 +9,7 @@ use Rattle.rules.specs.Text.{lineFeed}
 use Rattle.rules.proofs.Cutting.{Clean}
 use Rattle.reading.specs.Ends.{lineEnd}
 use Rattle.reading.proofs.EndLaws.{end-within, end-found, end-first}
-use Rattle.running.specs.LineEnds.{LineEnd}
+use Rattle.running.specs.BlockLoop.{LineEnd}
 
 pub line-ends : (s : List ℕ) (from r : ℕ) → from ≤ length s → r ≡ lineEnd s from → LineEnd s from r
 line-ends s from r h e =

@@ -11,9 +11,9 @@ use lib.Seq.{take-suc, take-suc-set, drop-set-lt, drop-drop, getD-drop, take-all
 use Rattle.rules.specs.Runs.{State, Out, items, run}
 use Rattle.rules.specs.Chunks.{replyRoom}
 use Rattle.answers.specs.declared.Tally.{Tally}
-use Rattle.running.specs.declared.running.Block.{Block}
-use Rattle.answers.specs.Handling.{stateOf}
-use Rattle.running.specs.Running.{Leaves}
+use Rattle.running.specs.declared.Block.{Block}
+use Rattle.answers.specs.Values.{stateOf}
+use Rattle.running.specs.BlockPromise.{Leaves}
 use Rattle.slotboard.specs.Serving.{WorkedOff}
 
 -- the run of x from s₀ goes on from here, at index at

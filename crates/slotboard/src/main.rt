@@ -2,13 +2,14 @@
 ghost use Prim.Native.Nat.{_+_, _≤_, _<_};
 ghost use lib.ListN.{length};
 ghost use Rattle.rules.specs.Chunks.{replyRoom, waiting};
-ghost use Rattle.answers.specs.Handling.{stateOf};
+ghost use Rattle.answers.specs.Values.{stateOf};
 ghost use Rattle.slotboard.specs.Serving.{WorkedOff, Moved};
 use answers::Tally;
-use answers::close;
+use answers::new_day;
 use libc::STDIN_FILENO;
 use libc::STDOUT_FILENO;
 use running::run_block;
+use writing::close;
 
 // Writes out the first n bytes. After a write that fails the run goes on, so that it ends with its input.
 fn drain(out: &[u8], n: usize)
@@ -107,11 +108,7 @@ fn pull(
 fn read_all(buf: &mut [u8], board: &mut [u16], work: &mut [u16], out: &mut [u8]) -> Tally
     requires { ⌜ (waiting < length (now buf)) × (replyRoom ≤ length (now out)) ⌝ }
 {
-    let mut t = Tally {
-        lines: 0,
-        accepted: 0,
-        refused: 0,
-    };
+    let mut t = new_day();
     let mut held: usize = 0;
     let mut turns = u64::MAX;
     while turns > 0 {

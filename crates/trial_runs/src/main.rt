@@ -1,17 +1,18 @@
 // Whole runs at stream level: standard input, handed to the board's block function in pieces that cut its lines everywhere.
-// Beside it each line is handled by itself, its tally lent, on a board of its own: after each block both have the same words and counts.
+// Beside it each line is handled by itself, on a board of its own: after each block both have the same words and counts.
 ghost use Prim.Native.Nat.{_≤_, _<_};
 ghost use lib.ListN.{length};
-use board::Tally;
-use board::close;
-use board::run_block;
-use day::tallied;
+use answers::Tally;
+use answers::new_day;
+use handling::handle;
 use libc::STDIN_FILENO;
 use libc::STDOUT_FILENO;
+use running::run_block;
 use trial_words::fill_marks;
 use trial_words::same_words;
 use trial_words::say;
 use trial_words::zero_words;
+use writing::close;
 
 // Bytes of a piece, no multiple of a column: less than a line with its feed, and many lines.
 const SMALL: usize = 13;
@@ -76,12 +77,12 @@ fn run_singly(
         let e = feed_at(input, at);
         if e == input.len() {
             if ended {
-                let last = tallied(&input[e..], board, work, t);
+                let last = handle(&input[e..], board, work, t);
                 return last.tally;
             }
             return t;
         }
-        let h = tallied(&input[at..e], board, work, t);
+        let h = handle(&input[at..e], board, work, t);
         let u = h.tally;
         t = u;
         at = e + 1;
@@ -177,11 +178,7 @@ fn run_pieces(
 ) -> Ran
     requires { ⌜ 0 < piece ⌝ }
 {
-    let mut t = Tally {
-        lines: 0,
-        accepted: 0,
-        refused: 0,
-    };
+    let mut t = new_day();
     let mut v = t;
     let mut same = true;
     let mut at: usize = 0;

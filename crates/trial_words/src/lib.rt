@@ -129,6 +129,8 @@ pub fn work_cleared(work: &[u16], n: u16, s: usize) -> bool {
 
 pub fn refusal_number(r: Refusal) -> u16 {
     match r {
+        Refusal::Malformed => 1,
+        Refusal::TooLarge => 2,
         Refusal::BadSize => 3,
         Refusal::Short => 4,
         Refusal::Unsound => 5,
@@ -148,6 +150,7 @@ pub fn answer_number(a: Answer) -> u16 {
         Answer::Accepted(_) => 0,
         Answer::Refused(r) => refusal_number(r),
         Answer::Blocked(_) => 12,
+        Answer::Undecided => 65535,
     }
 }
 
@@ -156,6 +159,7 @@ pub fn answer_count(a: Answer) -> u64 {
         Answer::Accepted(moves) => moves,
         Answer::Refused(_) => 0,
         Answer::Blocked(s) => s as u64,
+        Answer::Undecided => 0,
     }
 }
 

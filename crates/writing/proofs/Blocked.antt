@@ -6,50 +6,50 @@ use native.Mathlib.Omega.{arith}
 use native.Mathlib.Decide.{decLe}
 use lib.ListN.{length, take, drop, length-drop}
 use lib.Seq.{drop-drop, take-all}
-use Rattle.rules.specs.AnswerLines.{blockedLines}
+use Rattle.rules.specs.AnswerLines.{answerBytes, slotsPerLine, blockedLines}
 use Rattle.rules.proofs.TextLaws.{length-blockedLines, blocked-none, blocked-more}
 use Rattle.writing.specs.Writing.{Puts}
-use Rattle.writing.specs.Storing.{Room, Stores, linesBytes, slotsLine}
+use Rattle.writing.specs.Storing.{Room, Stores, linesBytes, blockedLine}
 use Rattle.writing.proofs.Texts.{Joins, joins-more, joins-room, joins-done}
 use Rattle.writing.proofs.Puts.{puts-none, puts-all}
 
 module _ (out : List ℕ) (at : ℕ) (blocked : List ℕ) where
-  abbrev pub SlotsFrom : List ℕ → ℕ → ℕ → Type 0
-  SlotsFrom out′ end i = Joins out at (blockedLines blocked) out′ end (blockedLines (drop i blocked))
+  abbrev pub KLinesFrom : List ℕ → ℕ → ℕ → Type 0
+  KLinesFrom out′ end i = Joins out at (blockedLines blocked) out′ end (blockedLines (drop i blocked))
 
-  one-line : (i : ℕ) → i < length blocked → blockedLines (drop i blocked) ≡ slotsLine blocked i ++ blockedLines (drop (i + 8) blocked)
+  one-line : (i : ℕ) → i < length blocked → blockedLines (drop i blocked) ≡ blockedLine blocked i ++ blockedLines (drop (i + slotsPerLine) blocked)
   one-line i h =
       blocked-more (drop i blocked) (omega (arith, length-drop i blocked))
-      ∙ ap (λ (l : List ℕ). slotsLine blocked i ++ blockedLines l) (drop-drop 8 i blocked)
+      ∙ ap (λ (l : List ℕ). blockedLine blocked i ++ blockedLines l) (drop-drop slotsPerLine i blocked)
 
-  pub slots-more : (out′ : List ℕ) (end i r : ℕ) (next : List ℕ) → SlotsFrom out′ end i → i < length blocked → Stores out′ end (slotsLine blocked i) r next → SlotsFrom next r (i + 8)
-  slots-more out′ end i r next j h s =
-      joins-more out at (blockedLines blocked) out′ end (blockedLines (drop i blocked)) (slotsLine blocked i) (blockedLines (drop (i + 8) blocked)) next r j (one-line i h) (s .text) (s .end)
+  pub k-lines-more : (out′ : List ℕ) (end i r : ℕ) (next : List ℕ) → KLinesFrom out′ end i → i < length blocked → Stores out′ end (blockedLine blocked i) r next → KLinesFrom next r (i + slotsPerLine)
+  k-lines-more out′ end i r next j h s =
+      joins-more out at (blockedLines blocked) out′ end (blockedLines (drop i blocked)) (blockedLine blocked i) (blockedLines (drop (i + slotsPerLine) blocked)) next r j (one-line i h) (s .text) (s .end)
 
-  pub slots-none : length out < at + linesBytes (length blocked) → Puts out at (blockedLines blocked) at out
-  slots-none h = puts-none out at (blockedLines blocked) (omega (arith, length-blockedLines blocked))
+  pub k-lines-none : length out < at + linesBytes (length blocked) → Puts out at (blockedLines blocked) at out
+  k-lines-none h = puts-none out at (blockedLines blocked) (omega (arith, length-blockedLines blocked))
 
   module _ (fit : at + linesBytes (length blocked) ≤ length out) where
-    pub slots-room : (out′ : List ℕ) (end i : ℕ) → SlotsFrom out′ end i → i < length blocked → Room out′ end 10 (slotsLine blocked i)
-    slots-room out′ end i j h = record {
+    pub k-lines-room : (out′ : List ℕ) (end i : ℕ) → KLinesFrom out′ end i → i < length blocked → Room out′ end answerBytes (blockedLine blocked i)
+    k-lines-room out′ end i j h = record {
       wide = omega arith;
       fits = omega (
         arith,
-        joins-room out at (blockedLines blocked) out′ end (blockedLines (drop i blocked)) (slotsLine blocked i) (blockedLines (drop (i + 8) blocked)) j
+        joins-room out at (blockedLines blocked) out′ end (blockedLines (drop i blocked)) (blockedLine blocked i) (blockedLines (drop (i + slotsPerLine) blocked)) j
             (omega (arith, length-blockedLines blocked)) (one-line i h),
       );
     }
 
-    pub slots-all : (out′ : List ℕ) (end i : ℕ) → SlotsFrom out′ end i → length blocked ≤ i → Puts out at (blockedLines blocked) end out′
-    slots-all out′ end i j h =
+    pub k-lines-all : (out′ : List ℕ) (end i : ℕ) → KLinesFrom out′ end i → length blocked ≤ i → Puts out at (blockedLines blocked) end out′
+    k-lines-all out′ end i j h =
         let none = blocked-none (drop i blocked) (omega (arith, length-drop i blocked)) in
         let done = joins-done out at (blockedLines blocked) out′ end (subst (λ (l : List ℕ). Joins out at (blockedLines blocked) out′ end l) none j) in
         puts-all out at (blockedLines blocked) (omega (arith, length-blockedLines blocked)) end out′ (record { end = done .0; text = done .1 })
 
 -- a row that starts with the k slots from number i on
-pub slots-row : (blocked : List ℕ) (i k : ℕ) (row : List ℕ) → k ≡ min 8 (length blocked - i) → take k row ≡ take k (drop i blocked) → take k row ≡ take 8 (drop i blocked)
-slots-row blocked i k row least same = same ∙ go (decLe 8 (length blocked - i))
+pub k-line-row : (blocked : List ℕ) (i k : ℕ) (row : List ℕ) → k ≡ min slotsPerLine (length blocked - i) → take k row ≡ take k (drop i blocked) → take k row ≡ take slotsPerLine (drop i blocked)
+k-line-row blocked i k row least same = same ∙ go (decLe slotsPerLine (length blocked - i))
   where
-    go : Dec (8 ≤ length blocked - i) → take k (drop i blocked) ≡ take 8 (drop i blocked)
-    go (yes h) = let e : k ≡ 8 = omega arith in ap (λ (j : ℕ). take j (drop i blocked)) e
-    go (no n) = take-all k (drop i blocked) (omega (arith, length-drop i blocked)) ∙ sym (take-all 8 (drop i blocked) (omega (arith, length-drop i blocked)))
+    go : Dec (slotsPerLine ≤ length blocked - i) → take k (drop i blocked) ≡ take slotsPerLine (drop i blocked)
+    go (yes h) = let e : k ≡ slotsPerLine = omega arith in ap (λ (j : ℕ). take j (drop i blocked)) e
+    go (no n) = take-all k (drop i blocked) (omega (arith, length-drop i blocked)) ∙ sym (take-all slotsPerLine (drop i blocked) (omega (arith, length-drop i blocked)))

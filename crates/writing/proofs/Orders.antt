@@ -2,25 +2,27 @@
 use mathlib.Core.Path.{_≡_, sym, ap, _∙_}
 use mathlib.Core.Bool.{Bool, cond}
 use mathlib.Core.List.{List, [], _∷_}
-use Prim.Native.Nat.{ℕ, _+_, _*_, _≤_, _<_}
+use Prim.Native.Nat.{ℕ, _≤_, _<_}
 use native.Mathlib.Omega.{arith}
 use borrow.Author.Tests.{lt-ltb, le-ltb, ne-eqb}
 use lib.Dec.{ltb}
 use lib.ListN.{length, take}
 use lib.Seq.{sets, length-take-le}
-use Rattle.rules.specs.Layout.{mostSlots}
+use Rattle.rules.specs.Layout.{mostSlots, mostChoices}
 use Rattle.rules.specs.Calls.{Check, order, first, orderChecks}
-use Rattle.rules.specs.InputLines.{orderLine, orderBytes, writerChecks, written}
+use Rattle.rules.specs.InputLines.{columnBytes, orderLine, orderBytes, writerChecks, written}
+use Rattle.rules.specs.Letters.{letterA, byteOf}
 use Rattle.rules.proofs.TextLaws.{length-textLine}
 use Rattle.rules.proofs.WordLaws.{row8-same}
-use Rattle.orders.specs.Verdict.{faultNumber}
-use Rattle.orders.specs.declared.Fault.{Fault}
-use Rattle.orders.proofs.Verdicts.{fault-some, faulty, fine, fine-count}
+use Rattle.answers.specs.Numbers.{code}
+use Rattle.answers.specs.declared.Refusal.{Refusal}
+use Rattle.answers.proofs.NumberLaws.{code-some}
+use Rattle.orders.proofs.Verdicts.{faulty, fine, fine-count}
 use Rattle.writing.specs.Storing.{Room, Stores}
 
-module _ (k c : ℕ) (row buffer : List ℕ) (eight : length row ≡ 8) where
-  abbrev code : ℕ
-  code = first (writerChecks k c row buffer)
+module _ (k c : ℕ) (row buffer : List ℕ) (eight : length row ≡ mostChoices) where
+  abbrev refusal : ℕ
+  refusal = first (writerChecks k c row buffer)
 
   own-row : (order k c row) .list ≡ take c row
   own-row = ap (take c) (row8-same row eight)
@@ -32,17 +34,17 @@ module _ (k c : ℕ) (row buffer : List ℕ) (eight : length row ≡ 8) where
   abbrev Refuses : ℕ → Type 0
   Refuses n = record { refusal = n; count = 0; buffer = buffer } ≡ written k c row buffer
 
-  refuses : (n : ℕ) → 0 < n → code ≡ n → Refuses n
+  refuses : (n : ℕ) → 0 < n → refusal ≡ n → Refuses n
   unfolding written
   refuses n h e = rw (e, ne-eqb n 0 (λ z. omega arith))
 
-  length-line : c ≤ 8 → length (orderLine k (take c row)) ≡ 8 + 6 * c
-  length-line h = omega (arith, length-textLine 6 65 (k ∷ take c row), length-take-le c row (omega arith))
+  length-line : c ≤ mostChoices → length (orderLine k (take c row)) ≡ orderBytes c
+  length-line h = omega (arith, length-textLine columnBytes (byteOf letterA) (k ∷ take c row), length-take-le c row (omega arith))
 
-  pub order-room : c ≤ 8 → 8 + 6 * c ≤ length buffer → Room buffer 0 6 (orderLine k (take c row))
+  pub order-room : c ≤ mostChoices → orderBytes c ≤ length buffer → Room buffer 0 columnBytes (orderLine k (take c row))
   order-room h room = record { wide = omega arith; fits = omega (arith, length-line h) }
 
-  done : c ≤ 8 → code ≡ 0 → (r : ℕ) (buffer′ : List ℕ) → Stores buffer 0 (orderLine k (take c row)) r buffer′ → record { refusal = 0; count = r; buffer = buffer′ } ≡ written k c row buffer
+  done : c ≤ mostChoices → refusal ≡ 0 → (r : ℕ) (buffer′ : List ℕ) → Stores buffer 0 (orderLine k (take c row)) r buffer′ → record { refusal = 0; count = r; buffer = buffer′ } ≡ written k c row buffer
   unfolding written
   done h e r buffer′ s =
       let bytes : r ≡ orderBytes c = omega (arith, s .end, length-line h) in
@@ -54,18 +56,18 @@ module _ (k c : ℕ) (row buffer : List ℕ) (eight : length row ≡ 8) where
   abbrev judged : ℕ
   judged = first (orderChecks mostSlots k c row [])
 
-  pub refuses-fault : (n : ℕ) (f : Fault) → n ≡ faultNumber f → faultNumber f ≡ judged → Refuses n
-  refuses-fault n f q e = refuses n (omega (arith, fault-some f)) (faulty mostSlots k c row f lastCheck e ∙ sym q)
+  pub refuses-fault : (why : Refusal) → code why ≡ judged → Refuses (code why)
+  refuses-fault why e = refuses (code why) (omega (arith, code-some why)) (faulty mostSlots k c row why lastCheck e)
 
   module _ (e : 0 ≡ judged) where
-    to-4 : code ≡ first lastCheck
+    to-4 : refusal ≡ first lastCheck
     to-4 = fine mostSlots k c row e lastCheck
 
-    pub few : c ≤ 8
+    pub few : c ≤ mostChoices
     few = (fine-count mostSlots k c row e) .1
 
-    pub refuses-4 : length buffer < 8 + 6 * c → Refuses 4
+    pub refuses-4 : length buffer < orderBytes c → Refuses 4
     refuses-4 h = refuses 4 (omega arith) (to-4 ∙ ap (λ (b : Bool). cond b 4 0) (lt-ltb (length buffer) (orderBytes c) h))
 
-    pub writes : 8 + 6 * c ≤ length buffer → (r : ℕ) (buffer′ : List ℕ) → Stores buffer 0 (orderLine k (take c row)) r buffer′ → record { refusal = 0; count = r; buffer = buffer′ } ≡ written k c row buffer
+    pub writes : orderBytes c ≤ length buffer → (r : ℕ) (buffer′ : List ℕ) → Stores buffer 0 (orderLine k (take c row)) r buffer′ → record { refusal = 0; count = r; buffer = buffer′ } ≡ written k c row buffer
     writes h = done few (to-4 ∙ ap (λ (b : Bool). cond b 4 0) (le-ltb (length buffer) (orderBytes c) h))

@@ -6,7 +6,7 @@ use native.Mathlib.Omega.{arith}
 use native.Mathlib.Numerals.{add-one}
 use lib.ListN.{length, getD, take, drop, set, length-drop}
 use lib.Seq.{getD-drop, take-suc, take-suc-set}
-use Rattle.rules.specs.Layout.{word, reads}
+use Rattle.rules.specs.Layout.{mostChoices, word, reads}
 use Rattle.rules.proofs.WordLaws.{reads-is}
 
 -- one more word of a part is copied
@@ -17,7 +17,7 @@ copy-more row l at i v h g e same =
     ∙ sym (take-suc (drop at l) i 0 (omega (arith, length-drop at l))) ∙ ap (λ (j : ℕ). take j (drop at l)) (sym (add-one i))
 
 -- a list of eight, number by number
-pub row-eight : (l : List ℕ) → length l ≡ 8
+pub row-eight : (l : List ℕ) → length l ≡ mostChoices
     → getD l 0 0 ∷ getD l 1 0 ∷ getD l 2 0 ∷ getD l 3 0 ∷ getD l 4 0 ∷ getD l 5 0 ∷ getD l 6 0 ∷ getD l 7 0 ∷ [] ≡ l
 row-eight l h = subst (λ (k : ℕ). reads l 0 k ≡ l) h (reads-is l 0 l (λ j lt. ap (word l) (omega arith)))
 

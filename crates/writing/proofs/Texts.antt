@@ -10,7 +10,7 @@ use lib.ListN.{length, getD, drop, set, length-set, length-append, drop-of-lengt
 use lib.Seq.{sets, sets-eq, set-comm, length-sets, drop-cons}
 use Rattle.rules.specs.Text.{space, lineFeed, digit, glyph, padded, column, columns, textLine}
 use Rattle.rules.proofs.TextLaws.{length-padded, length-column}
-use Rattle.writing.specs.Storing.{placeOf, Stores}
+use Rattle.writing.specs.Storing.{lastDigit, Stores}
 
 pub sets-append : (l : List ℕ) (i : ℕ) (a b : List ℕ) → sets (sets l i a) (i + length a) b ≡ sets l i (a ++ b)
 sets-append l i [] b = rw add-zero
@@ -24,6 +24,14 @@ sets-start l a h = sets-eq a l 0 (rw zero-add h) ∙ rw zero-add
 pub sets-next : (l : List ℕ) (i n : ℕ) (a b : List ℕ) → n ≡ i + length a → sets (sets l i a) n b ≡ sets l i (a ++ b)
 sets-next l i n a b e = rw e (sets-append l i a b)
 
+-- b is stored after a
+pub stores-next : (out : List ℕ) (at : ℕ) (a b : List ℕ) (mid : ℕ) (out₁ : List ℕ) (r : ℕ) (out₂ : List ℕ)
+    → Stores out at a mid out₁ → Stores out₁ mid b r out₂ → Stores out at (a ++ b) r out₂
+stores-next out at a b mid out₁ r out₂ p q = record {
+  end = omega (arith, p .end, q .end, length-append a b);
+  text = q .text ∙ ap (λ (l : List ℕ). sets l mid b) (p .text) ∙ sets-next out at mid a b (p .end);
+}
+
 -- a byte behind a text may be stored first
 set-first : (l : List ℕ) (i j b : ℕ) (t : List ℕ) → i + length t ≤ j → sets (set l j b) i t ≡ set (sets l i t) j b
 set-first l i j b [] h = refl
@@ -35,16 +43,16 @@ last-first l at k b t h = set-first l at (at + k) b t (omega arith) ∙ sets-nex
 
 -- ---- a column's places
 
-last-place : (v : ℕ) → placeOf v 48 ≡ digit v
+last-place : (v : ℕ) → lastDigit v (digit 0) ≡ digit v
 last-place zero = refl
 last-place (suc v) = rw eqb·suc-zero
 
-other-place : (v : ℕ) → placeOf v space ≡ glyph v
+other-place : (v : ℕ) → lastDigit v space ≡ glyph v
 other-place zero = refl
 other-place (suc v) = rw eqb·suc-zero
 
 -- the last place is stored, and the others are left
-pub column-last : (l : List ℕ) (at width v b : ℕ) → 0 < width → b ≡ placeOf v 48 → sets (set l (at + (width - 1)) b) at (padded (width - 1) (v / 10)) ≡ sets l at (column width v)
+pub column-last : (l : List ℕ) (at width v b : ℕ) → 0 < width → b ≡ lastDigit v (digit 0) → sets (set l (at + (width - 1)) b) at (padded (width - 1) (v / 10)) ≡ sets l at (column width v)
 unfolding column
 column-last l at zero v b h e = absurd (omega arith)
 column-last l at (suc k) v b h e =
@@ -52,7 +60,7 @@ column-last l at (suc k) v b h e =
     ap₂ (λ (j x : ℕ). sets (set l (at + j) x) at (padded j (v / 10))) one (e ∙ last-place v) ∙ last-first l at k (digit v) (padded k (v / 10)) (length-padded k (v / 10))
 
 -- with i places left, one more is stored
-pub place-more : (l : List ℕ) (at i v b : ℕ) → 0 < i → b ≡ placeOf v space → sets (set l (at + (i - 1)) b) at (padded (i - 1) (v / 10)) ≡ sets l at (padded i v)
+pub place-more : (l : List ℕ) (at i v b : ℕ) → 0 < i → b ≡ lastDigit v space → sets (set l (at + (i - 1)) b) at (padded (i - 1) (v / 10)) ≡ sets l at (padded i v)
 place-more l at zero v b h e = absurd (omega arith)
 place-more l at (suc i) v b h e =
     let one : suc i - 1 ≡ i = omega arith in

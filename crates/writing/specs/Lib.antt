@@ -1,3 +1,4 @@
 pub mod Writing
 pub mod Wrote
+pub mod Closing
 pub mod Storing

@@ -2,18 +2,10 @@
 use mathlib.Core.List.{List}
 use Prim.Native.Nat.{ℕ}
 use Rattle.rules.specs.InputLines.{Written}
-use Rattle.writing.specs.declared.WriteRefusal.{WriteRefusal}
-use Rattle.writing.specs.declared.WriteRefusal.the-variants.{NumberZero, BadCount, OffBoard, NotRising, Short}
+use Rattle.answers.specs.Numbers.{code}
 use Rattle.writing.specs.declared.Wrote.{Wrote}
 use Rattle.writing.specs.declared.Wrote.the-variants as wrote
 
-abbrev pub numberOf : WriteRefusal → ℕ
-numberOf NumberZero = 7
-numberOf BadCount = 8
-numberOf OffBoard = 9
-numberOf NotRising = 10
-numberOf Short = 4
-
 abbrev pub wroteOf : Wrote → List ℕ → Written
 wroteOf (wrote.Written count) buffer = record { refusal = 0; count = count; buffer = buffer }
-wroteOf (wrote.Refused why) buffer = record { refusal = numberOf why; count = 0; buffer = buffer }
+wroteOf (wrote.Refused why) buffer = record { refusal = code why; count = 0; buffer = buffer }

@@ -1,148 +1,93 @@
-// Numbers, answers and orders as bytes in a lent buffer. A text that the buffer has no room for is not begun.
-ghost use mathlib.Core.Path.{_≡_};
-ghost use mathlib.Core.List.{_∷_};
-ghost use Prim.Native.Nat.{_+_, _≤_, _<_, min};
-ghost use lib.Dec.{leb};
-ghost use lib.ListN.{length, take, drop};
-ghost use lib.Seq.{sets};
-ghost use Rattle.rules.specs.Text.{column, textLine};
-ghost use Rattle.rules.specs.InputLines.{orderLine, written};
-ghost use Rattle.rules.specs.AnswerLines.{printed, blockedLines};
-ghost use Rattle.writing.specs.Writing.{Puts};
-ghost use Rattle.writing.specs.Wrote.{numberOf, wroteOf};
-ghost use Rattle.writing.specs.Storing.{placeOf, Room, Stores, linesBytes, slotsLine};
-ghost use Rattle.orders.specs.Verdict.{faultNumber};
-use orders::Fault;
-use orders::Verdict;
-use orders::judge;
+// All text that goes out, as bytes in a lent buffer. A text that the buffer has no room for is not begun.
+mod text;
 
-// Why an order is not written.
-pub enum WriteRefusal {
-    NumberZero,
-    BadCount,
-    OffBoard,
-    NotRising,
-    Short,
-}
+ghost use mathlib.Core.Path.{_≡_};
+ghost use mathlib.Core.List.{_∷_, _++_};
+ghost use Prim.Native.Nat.{_+_, _≤_, _<_};
+ghost use lib.ListN.{length, take, drop};
+ghost use Rattle.rules.specs.InputLines.{columnBytes, orderLine, written};
+ghost use Rattle.rules.specs.AnswerLines.{
+  answerBytes,
+  slotsPerLine,
+  printed,
+  blockedLines,
+  slotLines,
+  replyText,
+};
+ghost use Rattle.rules.specs.Layout.{mostChoices};
+ghost use Rattle.answers.specs.Values.{replyOf};
+ghost use Rattle.writing.specs.Writing.{Puts, threeBytes};
+ghost use Rattle.writing.specs.Closing.{Closes};
+ghost use Rattle.writing.specs.Wrote.{wroteOf};
+ghost use Rattle.writing.specs.Storing.{Room, Stores, blockedLine, slotLine, answerLine};
+use answers::Gate;
+use answers::Refusal;
+use answers::Reply;
+use answers::Tally;
+use answers::blocked;
+use orders::judge;
+use text::ANSWER_WIDTH;
+use text::FRAME;
+use text::ORDER_WIDTH;
+use text::PER_LINE;
+use text::fits;
+use text::least;
+use text::lines_fit;
+use text::put_line;
+use text::wide;
+use words::MOST_SLOTS;
+use words::label_at;
+use words::number_at;
+use words::size_of;
+
+// A line of three columns: an answer, an L line, the N line.
+const THREE_BYTES: usize = FRAME + 3 * ANSWER_WIDTH;
+
+// The line of an order without slots: its letter, its number, its line feed.
+const NUMBER_BYTES: usize = FRAME + ORDER_WIDTH;
+
+// The refusal that blocked slots follow.
+const NO_SLOT: u16 = 12;
 
 // The count of bytes written, or why nothing was.
 pub enum Wrote {
     Written(usize),
-    Refused(WriteRefusal),
-}
-
-// The last digit of v, or `blank` for 0.
-fn place(v: u64, blank: u8) -> u8
-    ensures { λ r. ⌜ r ≡ placeOf v blank ⌝ }
-{
-    if v == 0 {
-        return blank;
-    }
-    48 + (v % 10) as u8
-}
-
-// v in `width` places, from the last one to the first: a lone 0 is written, places before the number are spaces.
-fn put_column(out: &mut [u8], at: usize, width: usize, v: u64)
-    requires { ⌜ (0 < width) × (at + width ≤ length (now out)) ⌝ }
-    ensures { λ _. ⌜ now (out .exit) ≡ sets (now (out .entry)) at (column width v) ⌝ }
-{
-    let last = width - 1;
-    out[at + last] = place(v, 48);
-    let mut rest = v / 10;
-    let mut i = last;
-    while 0 < i {
-        i -= 1;
-        out[at + i] = place(rest, 32);
-        rest /= 10;
-    }
-}
-
-// A letter, a column for each value, a line feed. The answer is the position after it.
-fn put_line(out: &mut [u8], at: usize, width: usize, letter: u8, values: &[u64]) -> usize
-    requires { ⌜ Room (now out) at width (textLine width letter (now values)) ⌝ }
-    ensures { λ r. ⌜ Stores (now (out .entry)) at (textLine width letter (now (values .entry))) r (now (out .exit)) ⌝ }
-{
-    out[at] = letter;
-    let mut end = at + 1;
-    let mut i: usize = 0;
-    while i < values.len() {
-        put_column(out, end, width, values[i]);
-        end += width;
-        i += 1;
-    }
-    out[end] = 10;
-    end + 1
-}
-
-fn least(a: usize, b: usize) -> usize
-    ensures { λ r. ⌜ r ≡ min a b ⌝ }
-{
-    if a < b { a } else { b }
-}
-
-// A text of `size` bytes goes to `at` of a buffer of `len` bytes.
-fn fits(len: usize, at: usize, size: usize) -> bool
-    ensures { λ r. ⌜ r ≡ leb (at + size) len ⌝ }
-{
-    if len < at {
-        return false;
-    }
-    size <= len - at
-}
-
-// The lines of n numbers, eight to a line, go to `at`. Asked in steps, so that no product is too large.
-fn lines_fit(len: usize, at: usize, n: usize) -> bool
-    ensures { λ r. ⌜ r ≡ leb (at + linesBytes n) len ⌝ }
-{
-    if len < at {
-        return false;
-    }
-    let room = len - at;
-    if room / 10 < n {
-        return false;
-    }
-    2 * ((n + 7) / 8) <= room - 10 * n
+    Refused(Refusal),
 }
 
 // A letter and the first `count` values ten wide, all eight if there are no more.
 pub fn put_answer(out: &mut [u8], at: usize, letter: u8, values: [u64; 8], count: usize) -> usize
     ensures { λ r. ⌜ Puts (now (out .entry)) at (printed letter (take count values)) r (now (out .exit)) ⌝ }
 {
-    let k = least(count, 8);
-    if !fits(out.len(), at, 10 * k + 2) {
+    let k = least(count, PER_LINE);
+    if !fits(out.len(), at, ANSWER_WIDTH * k + FRAME) {
         return at;
     }
-    put_line(out, at, 10, letter, &values[..k])
+    put_line(out, at, ANSWER_WIDTH, letter, &values[..k])
 }
 
-fn wide(x: u16) -> u64
-    ensures { λ r. ⌜ r ≡ x ⌝ }
-{
-    x as u64
-}
-
-// `count` words from `at` on, as the start of a row of values.
-fn row_of(words: &[u16], at: usize, count: usize) -> [u64; 8]
-    requires { ⌜ (count ≤ 8) × (at + count ≤ length (now words)) ⌝ }
-    ensures { λ r. ⌜ take count r ≡ take count (drop at (now (words .entry))) ⌝ }
+// `count` words from `from` on, as the start of a row of values.
+fn values_from(words: &[u16], from: usize, count: usize) -> [u64; 8]
+    requires { ⌜ (count ≤ slotsPerLine) × (from + count ≤ length (now words)) ⌝ }
+    ensures { λ r. ⌜ take count r ≡ take count (drop from (now (words .entry))) ⌝ }
 {
     let mut row: [u64; 8] = [0; 8];
     let mut i: usize = 0;
     while i < count {
-        row[i] = wide(words[at + i]);
+        row[i] = wide(words[from + i]);
         i += 1;
     }
     row
 }
 
 // The K line of the slots from number i on, up to eight of them.
-fn put_slots(out: &mut [u8], at: usize, blocked: &[u16], i: usize) -> usize
-    requires { ⌜ (i < length (now blocked)) × Room (now out) at 10 (slotsLine (now blocked) i) ⌝ }
-    ensures { λ r. ⌜ Stores (now (out .entry)) at (slotsLine (now (blocked .entry)) i) r (now (out .exit)) ⌝ }
+fn put_blocked_line(out: &mut [u8], at: usize, blocked: &[u16], i: usize) -> usize
+    requires { ⌜ (i < length (now blocked)) × Room (now out) at answerBytes (blockedLine (now blocked) i) ⌝ }
+    ensures { λ r. ⌜ Stores (now (out .entry)) at (blockedLine (now (blocked .entry)) i) r (now (out .exit)) ⌝ }
 {
-    let k = least(8, blocked.len() - i);
-    let row = row_of(blocked, i, k);
-    put_line(out, at, 10, 75, &row[..k])
+    let k = least(PER_LINE, blocked.len() - i);
+    let row = values_from(blocked, i, k);
+    put_line(out, at, ANSWER_WIDTH, b'K', &row[..k])
 }
 
 // The K lines: the blocked slots, eight to a line.
@@ -156,10 +101,110 @@ pub fn put_blocked(out: &mut [u8], at: usize, blocked: &[u16]) -> usize
     let mut end = at;
     let mut i: usize = 0;
     while i < n {
-        end = put_slots(out, end, blocked, i);
-        i += 8;
+        end = put_blocked_line(out, end, blocked, i);
+        i += PER_LINE;
     }
     end
+}
+
+// A line of three columns.
+fn put_three(out: &mut [u8], at: usize, letter: u8, values: [u64; 3]) -> usize
+    requires { ⌜ at + threeBytes ≤ length (now out) ⌝ }
+    ensures { λ r. ⌜ Stores (now (out .entry)) at (printed letter values) r (now (out .exit)) ⌝ }
+{
+    put_line(out, at, ANSWER_WIDTH, letter, &values)
+}
+
+// The L line of slot s.
+fn put_slot_line(out: &mut [u8], at: usize, board: &[u16], s: u16) -> usize
+    requires { ⌜ at + threeBytes ≤ length (now out) ⌝ }
+    ensures { λ r. ⌜ Stores (now (out .entry)) at (slotLine (now (board .entry)) s) r (now (out .exit)) ⌝ }
+{
+    let number = number_at(board, s);
+    let label = label_at(board, s);
+    put_three(out, at, b'L', [wide(s), wide(number), wide(label)])
+}
+
+// The L lines: one per slot.
+pub fn put_plan(out: &mut [u8], at: usize, board: &[u16]) -> usize
+    ensures { λ r. ⌜ Puts (now (out .entry)) at (slotLines (now (board .entry))) r (now (out .exit)) ⌝ }
+{
+    let n = size_of(board);
+    if !fits(out.len(), at, THREE_BYTES * n as usize) {
+        return at;
+    }
+    let mut end = at;
+    let mut k: u16 = 0;
+    while k < n {
+        end = put_slot_line(out, end, board, k + 1);
+        k += 1;
+    }
+    end
+}
+
+// The answer line of a reply.
+fn put_answer_line(out: &mut [u8], at: usize, reply: Reply) -> usize
+    requires { ⌜ at + threeBytes ≤ length (now out) ⌝ }
+    ensures { λ r. ⌜ Stores (now (out .entry)) at (answerLine reply) r (now (out .exit)) ⌝ }
+{
+    let values = [wide(reply.number), wide(reply.refusal), reply.count];
+    put_three(out, at, reply.letter, values)
+}
+
+// The answer line and the K lines, where there is room for the first of them at least.
+fn put_with_blocked(out: &mut [u8], at: usize, reply: Reply, work: &[u16]) -> usize
+    requires { ⌜ at + threeBytes ≤ length (now out) ⌝ }
+    ensures { λ r. ⌜ Puts (now (out .entry)) at (answerLine reply ++ blockedLines (take (reply .count) (now (work .entry)))) r (now (out .exit)) ⌝ }
+{
+    let shown = blocked(work, reply.count as usize);
+    if !lines_fit(out.len(), at + THREE_BYTES, shown.len()) {
+        return at;
+    }
+    let end = put_answer_line(out, at, reply);
+    put_blocked(out, end, shown)
+}
+
+// The same with the L lines.
+fn put_with_plan(out: &mut [u8], at: usize, reply: Reply, board: &[u16]) -> usize
+    requires { ⌜ at + threeBytes ≤ length (now out) ⌝ }
+    ensures { λ r. ⌜ Puts (now (out .entry)) at (answerLine reply ++ slotLines (now (board .entry))) r (now (out .exit)) ⌝ }
+{
+    let n = size_of(board);
+    if !fits(out.len(), at + THREE_BYTES, THREE_BYTES * n as usize) {
+        return at;
+    }
+    let end = put_answer_line(out, at, reply);
+    put_plan(out, end, board)
+}
+
+// The answer line with the lines that follow it: all of them, or nothing.
+pub fn put_reply(reply: Reply, board: &[u16], work: &[u16], out: &mut [u8], at: usize) -> usize
+    ensures { λ r. ⌜ Puts (now (out .entry)) at (replyText (replyOf reply) (now (board .entry)) (now (work .entry))) r (now (out .exit)) ⌝ }
+{
+    if !fits(out.len(), at, THREE_BYTES) {
+        return at;
+    }
+    let refusal = reply.refusal;
+    if refusal == NO_SLOT {
+        return put_with_blocked(out, at, reply, work);
+    }
+    if refusal != 0 {
+        return put_answer_line(out, at, reply);
+    }
+    if reply.letter != b'P' {
+        return put_answer_line(out, at, reply);
+    }
+    put_with_plan(out, at, reply, board)
+}
+
+// The N line, at the start of the room.
+pub fn close(t: Tally, out: &mut [u8]) -> usize
+    ensures { λ r. ⌜ Closes t (now (out .entry)) r (now (out .exit)) ⌝ }
+{
+    let lines = t.lines as u64;
+    let accepted = t.accepted as u64;
+    let refused = t.refused as u64;
+    put_answer(out, 0, b'N', [lines, accepted, refused, 0, 0, 0, 0, 0], 3)
 }
 
 // The columns of an order's line: its number, then its row.
@@ -180,40 +225,29 @@ fn order_values(number: u16, row: [u16; 8]) -> [u64; 9]
 }
 
 // The A line of an order, 8 bytes and 6 more per slot.
-fn put_order(buffer: &mut [u8], number: u16, count: usize, row: [u16; 8]) -> usize
-    requires { ⌜ (count ≤ 8) × Room (now buffer) 0 6 (orderLine number (take count row)) ⌝ }
+fn put_order_line(buffer: &mut [u8], number: u16, count: usize, row: [u16; 8]) -> usize
+    requires { ⌜ (count ≤ mostChoices) × Room (now buffer) 0 columnBytes (orderLine number (take count row)) ⌝ }
     ensures { λ r. ⌜ Stores (now (buffer .entry)) 0 (orderLine number (take count row)) r (now (buffer .exit)) ⌝ }
 {
     let values = order_values(number, row);
-    put_line(buffer, 0, 6, 65, &values[..count + 1])
-}
-
-fn refusal_of(f: Fault) -> WriteRefusal
-    ensures { λ r. ⌜ numberOf r ≡ faultNumber f ⌝ }
-{
-    match f {
-        Fault::NumberZero => WriteRefusal::NumberZero,
-        Fault::BadCount => WriteRefusal::BadCount,
-        Fault::OffBoard => WriteRefusal::OffBoard,
-        Fault::NotRising => WriteRefusal::NotRising,
-    }
+    put_line(buffer, 0, ORDER_WIDTH, b'A', &values[..count + 1])
 }
 
 // The order writer. Refused, it writes nothing.
 pub fn write_order(buffer: &mut [u8], number: u16, count: u16, row: [u16; 8]) -> Wrote
     ensures { λ r. ⌜ wroteOf r (now (buffer .exit)) ≡ written number count row (now (buffer .entry)) ⌝ }
 {
-    let v = judge(1024, number, count, row);
-    match v {
-        Verdict::Faulty(f) => {
-            return Wrote::Refused(refusal_of(f));
+    let gate = judge(MOST_SLOTS, number, count, row);
+    match gate {
+        Gate::Refused(why) => {
+            return Wrote::Refused(why);
         }
-        Verdict::Fine => {
+        Gate::Passed => {
             let c = count as usize;
-            if buffer.len() < 8 + 6 * c {
-                return Wrote::Refused(WriteRefusal::Short);
+            if buffer.len() < NUMBER_BYTES + ORDER_WIDTH * c {
+                return Wrote::Refused(Refusal::Short);
             }
-            let end = put_order(buffer, number, c, row);
+            let end = put_order_line(buffer, number, c, row);
             return Wrote::Written(end);
         }
     }

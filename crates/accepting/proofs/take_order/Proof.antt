@@ -4,7 +4,7 @@ use lib.ListN.{length}
 use borrow.Author.Needs.{needs}
 use Rattle.rules.specs.Layout.{mostChoices}
 use Rattle.answers.specs.Numbers.{gateNumber, said}
-use Rattle.orders.proofs.Verdicts.{code-some}
+use Rattle.answers.proofs.NumberLaws.{code-some}
 use Rattle.accepting.proofs.TakingIn.{turned, goes}
 use Rattle.accepting.proofs.take_order.Statement.{statement}
 use Rattle.accepting.proofs.take_order.Tie as tie

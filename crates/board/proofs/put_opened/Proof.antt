@@ -15,8 +15,8 @@ board-words-requires c κs = search needs
 zero-front-requires : tie.Need-zero-front-requires
 zero-front-requires c κs = search needs
 
-put-word-requires : tie.Need-put-word-requires
-put-word-requires c κs = search needs
+put-size-requires : tie.Need-put-size-requires
+put-size-requires c κs = search needs
 
 same-length : tie.Need-same-length
 same-length c = search needs
@@ -26,9 +26,9 @@ returns c =
     let z = c .before .before .before .before .before .before in
     let a = z .before .before .before .before .args in
     let e : z .zero-front .last .0 ≡ sets (a .board .now) 0 (replicate (boardWords (a .n)) 0) = z .zero-front .ensures ∙ ap (λ (k : ℕ). sets (a .board .now) 0 (replicate k 0)) (z .before .board-words .ensures) in
-    c .before .before .put-word .ensures ∙ ap (λ (l : List ℕ). set l 0 (a .n)) e ∙ opens (a .board .now) (a .n)
+    c .before .before .put-size .ensures ∙ ap (λ (l : List ℕ). set l 0 (a .n)) e ∙ opens (a .board .now) (a .n)
 
 pub put-opened-spec : {M : Type 1} → statement M
 put-opened-spec =
     tie.close
-    (tie.spec board-words-requires zero-front-requires put-word-requires same-length returns)
+    (tie.spec board-words-requires zero-front-requires put-size-requires same-length returns)

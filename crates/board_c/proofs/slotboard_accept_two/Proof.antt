@@ -6,7 +6,7 @@ use Prim.Native.Nat.{ℕ}
 use lib.Dec.{eqb}
 use borrow.Author.Needs.{needs}
 use Rattle.rules.specs.Calls as Calls
-use Rattle.answers.specs.Said.{code, said}
+use Rattle.answers.specs.Numbers.{code, said}
 use Rattle.answers.specs.declared.Answer.{Answer}
 use Rattle.board_c.specs.Exported.{blockedCount}
 use Rattle.board_c.proofs.slotboard_accept_two.Statement.{statement}

@@ -1,16 +1,20 @@
-use mathlib.Core.Path.{_≡_, refl, sym, ap, ap₂, _∙_}
-use mathlib.Core.Bool.{cond}
+use mathlib.Core.Path.{_≡_, ap, ap₂, _∙_}
 use Prim.Native.Nat.{ℕ}
 use lib.Dec.{eqb}
-use Rattle.rules.specs.Bringing.{answer}
-use Rattle.rules.specs.Layout.{heldCount}
-use Rattle.rules.specs.InputLines.{letterP}
-use Rattle.rules.specs.Runs.{firstNumber}
-use Rattle.board.specs.Asking.{callFor}
-use Rattle.handling.proofs.Asking.{asks}
 use borrow.Author.Needs.{needs}
+use Rattle.rules.specs.Layout.{heldCount}
+use Rattle.rules.specs.Runs.{firstNumber}
+use Rattle.answers.specs.Numbers.{said}
+use Rattle.board.specs.Requests.{callFor}
+use Rattle.board.specs.declared.Ask.{Ask}
+use Rattle.reading.specs.Reading.{kindLetter}
+use Rattle.handling.specs.Turns.{askOf, lineCall, numberShown}
+use Rattle.handling.proofs.Asking.{shown-first, asks}
 use Rattle.handling.proofs.asked_line.Statement.{statement}
 use Rattle.handling.proofs.asked_line.Tie as tie
+
+ask-of-requires : tie.Need-ask-of-requires
+ask-of-requires c κs = search needs
 
 request-of-requires : tie.Need-request-of-requires
 request-of-requires c κs = search needs
@@ -18,14 +22,20 @@ request-of-requires c κs = search needs
 perform-requires : tie.Need-perform-requires
 perform-requires c κs = search needs
 
+refusal-of-requires : tie.Need-refusal-of-requires
+refusal-of-requires c κs = search needs
+
 first-of-requires : tie.Need-first-of-requires
 first-of-requires c κs = search needs
 
 shown-number-requires : tie.Need-shown-number-requires
 shown-number-requires c κs = search needs
 
-replied-as-requires : tie.Need-replied-as-requires
-replied-as-requires c κs = search needs
+answer-letter-requires : tie.Need-answer-letter-requires
+answer-letter-requires c κs = search needs
+
+replied-requires : tie.Need-replied-requires
+replied-requires c κs = search needs
 
 same-length : tie.Need-same-length
 same-length c = search needs
@@ -36,30 +46,37 @@ same-length-2 c = search needs
 returns : tie.Need-returns
 returns c =
     let h = c .before .before in
-    let n = h .before in
+    let l = h .before in
+    let n = l .before in
     let f = n .before .before in
-    let p = f .before .before .before .before .before .before .before .before in
+    let o = f .before in
+    let p = o .before .before .before .before .before .before .before in
     let q = p .before .before .before in
-    let a = q .before .before .before .args in
-    let b = a .board .now in
-    let w = a .work .now in
+    let k = q .before in
+    let a = k .before .before .before .args in
     let b′ = p .perform .last .1 .0 in
     let w′ = p .perform .last .1 .1 .0 in
-    let m = p .perform .result .numbers in
-    let number : n .shown-number .result ≡ firstNumber (a .letter) (a .l .columns) (answer (m .refusal) (m .count) b′ w′) =
-    n .shown-number .ensures ∙ ap (λ (k : ℕ). cond (eqb (a .letter) letterP) (cond (eqb (m .refusal) 0) (heldCount b′) 0) k) (f .first-of .ensures) in
-    asks (a .letter) (a .ask) (a .l) (a .known) b w (a .t) _ b′ w′ (callFor (q .request-of .result)) (q .request-of .ensures) (m .refusal) (m .count) (n .shown-number .result) number
-    (p .perform .ensures .answer) (p .perform .ensures .known) (h .replied-as .ensures .reply) (h .replied-as .ensures .tally)
+    let said′ = said (p .perform .result .answer) b′ w′ in
+    let call : callFor (q .request-of .result) ≡ lineCall (askOf (a .kind)) (a .l) = q .request-of .ensures ∙ ap (λ (y : Ask). lineCall y (a .l)) (k .ask-of .ensures) in
+    let number : n .shown-number .result ≡ firstNumber (kindLetter (a .kind)) (a .l .columns) said′ =
+    n .shown-number .ensures
+    ∙ ap₂ (λ (m r : ℕ). numberShown (kindLetter (a .kind)) m (eqb r 0) (heldCount b′)) (f .first-of .ensures) (o .refusal-of .ensures)
+    ∙ shown-first (kindLetter (a .kind)) (a .l .columns) said′ in
+    asks (a .kind) (a .l) (a .known) (a .board .now) (a .work .now) (a .t) _ b′ w′ (callFor (q .request-of .result)) call (p .perform .result .answer) (l .answer-letter .result) (n .shown-number .result)
+    (l .answer-letter .ensures) number (p .perform .ensures .answer) (p .perform .ensures .known) (h .replied .ensures .reply) (h .replied .ensures .tally)
 
 pub asked-line-spec : {M : Type 1} → statement M
 asked-line-spec =
     tie.close
     (tie.spec
+    ask-of-requires
     request-of-requires
     perform-requires
+    refusal-of-requires
     first-of-requires
     shown-number-requires
-    replied-as-requires
+    answer-letter-requires
+    replied-requires
     same-length
     same-length-2
     returns)

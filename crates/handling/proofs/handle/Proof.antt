@@ -1,6 +1,6 @@
 use mathlib.Core.Path.{_∙_}
 use Rattle.rules.proofs.Knowing.{lines}
-use Rattle.answers.specs.Handling.{stateOf}
+use Rattle.answers.specs.Values.{stateOf}
 use Rattle.checking.specs.Known.{knownOf}
 use borrow.Author.Needs.{needs}
 use Rattle.handling.proofs.handle.Statement.{statement}

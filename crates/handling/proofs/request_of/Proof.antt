@@ -2,13 +2,13 @@ use mathlib.Core.Path.{_≡_, refl, sym, ap, ap₂, _∙_}
 use mathlib.Core.List.{List}
 use Prim.Native.Nat.{ℕ}
 use lib.ListN.{getD}
-use Rattle.board.specs.Asking.{callBy}
+use Rattle.board.specs.Requests.{callBy}
 use borrow.Author.Needs.{needs}
 use Rattle.handling.proofs.request_of.Statement.{statement}
 use Rattle.handling.proofs.request_of.Tie as tie
 
-array-read-number : tie.Need-array-read-number
-array-read-number c = search needs
+first-of-requires : tie.Need-first-of-requires
+first-of-requires c κs = search needs
 
 choices-requires : tie.Need-choices-requires
 choices-requires c κs = search needs
@@ -18,8 +18,11 @@ row-of-requires c κs = search needs
 
 returns : tie.Need-returns
 returns c =
-    let a = c .before .before .before .args in
-    ap₂ (λ (k : ℕ) (row : List ℕ). callBy (a .ask) (getD (a .l .columns) 0 0) k row) (c .before .choices .ensures) (c .row-of .ensures)
+    let a = c .before .before .before .before .args in
+    let first : c .before .before .first-of .result ≡ getD (a .l .columns) 0 0 = c .before .before .first-of .ensures in
+    let count = c .before .choices .ensures in
+    let row = c .row-of .ensures in
+    λ i. callBy (a .ask) (first i) (count i) (row i)
 
 pub request-of-spec : {M : Type 1} → statement M
-request-of-spec = tie.close (tie.spec array-read-number choices-requires row-of-requires returns)
+request-of-spec = tie.close (tie.spec first-of-requires choices-requires row-of-requires returns)

@@ -1,19 +1,67 @@
-use borrow.Author.Tests.{eq-eqb, ne-eqb}
+use mathlib.Core.Path.{sym, ap, _∙_}
 use borrow.Author.Needs.{needs}
+use Rattle.rules.specs.Layout.{heldCount}
+use Rattle.reading.specs.Reading.{kindLetter}
+use Rattle.reading.specs.declared.Kind.{Kind}
+use Rattle.handling.specs.Turns.{numberShown}
 use Rattle.handling.proofs.shown_number.Statement.{statement}
 use Rattle.handling.proofs.shown_number.Tie as tie
 
+enum-told : tie.Need-enum-told
+enum-told c = search needs
+
+enum-told-2 : tie.Need-enum-told-2
+enum-told-2 c = search needs
+
+enum-told-3 : tie.Need-enum-told-3
+enum-told-3 c = search needs
+
+enum-told-4 : tie.Need-enum-told-4
+enum-told-4 c = search needs
+
+held-if-requires : tie.Need-held-if-requires
+held-if-requires c κs = search needs
+
+enum-told-5 : tie.Need-enum-told-5
+enum-told-5 c = search needs
+
+enum-told-6 : tie.Need-enum-told-6
+enum-told-6 c = search needs
+
 returns : tie.Need-returns
-returns c = rw (ne-eqb _ _ (c .if1 .taken))
+returns c = search needs
 
 returns-2 : tie.Need-returns-2
-returns-2 c = rw (eq-eqb _ _ (c .before .if1 .left), ne-eqb _ _ (c .if2 .taken))
-
-word-at-requires : tie.Need-word-at-requires
-word-at-requires c κs = search needs
+returns-2 c = search needs
 
 returns-3 : tie.Need-returns-3
-returns-3 c = rw (eq-eqb _ _ (c .before .before .if1 .left), eq-eqb _ _ (c .before .if2 .left)) (c .word-at .ensures)
+returns-3 c = search needs
+
+returns-4 : tie.Need-returns-4
+returns-4 c =
+    let a = c .before .before .before .before .args in
+    c .held-if .ensures ∙ ap (λ (k : Kind). numberShown (kindLetter k) (a .number) (a .ok) (heldCount (a .board .now))) (sym (c .before .enum-told4 .given .1))
+
+returns-5 : tie.Need-returns-5
+returns-5 c = search needs
+
+returns-6 : tie.Need-returns-6
+returns-6 c = search needs
 
 pub shown-number-spec : {M : Type 1} → statement M
-shown-number-spec = tie.close (tie.spec returns returns-2 word-at-requires returns-3)
+shown-number-spec =
+    tie.close
+    (tie.spec
+    enum-told
+    enum-told-2
+    enum-told-3
+    enum-told-4
+    held-if-requires
+    enum-told-5
+    enum-told-6
+    returns
+    returns-2
+    returns-3
+    returns-4
+    returns-5
+    returns-6)

@@ -1,4 +1,4 @@
--- `handling::tallied` meets its contract: a walk of its MIR, by hand. The tally is copied into a local that is lent to `handle_line` for a lifetime of the call,
+-- `handling::tallied` meets its contract: a walk of its MIR, by hand. The tally is copied into a local that is lent to `handle_next` for a lifetime of the call,
 -- and comes back at the last value that its contract says; board and work words go to it for good; the line's slice is Copy. Assumes nothing.
 use mathlib.Core.Path.{_≡_, refl, ap}
 use Prim.Native.Nat.{ℕ}
@@ -46,8 +46,8 @@ use Rattle.answers.specs.declared.Tally.{Tally}
 use Rattle.checking.specs.declared.Known.{Known}
 use Rattle.handling.specs.declared.Noted.{Noted}
 use Rattle.handling.specs.declared.Turned.{Turned}
-use Rattle.answers.specs.Handling.{stateOf}
-use Rattle.handling.specs.Lines.{Turns}
+use Rattle.answers.specs.Values.{stateOf}
+use Rattle.handling.specs.Turns.{Turns}
 use Rattle.answers.proofs.Tally as T
 use Rattle.answers.proofs.Tally.Laws as T′
 use Rattle.checking.proofs.Known as K
@@ -56,10 +56,10 @@ use Rattle.handling.proofs.Noted as R
 use Rattle.handling.proofs.Noted.Laws as R′
 use Rattle.handling.proofs.Turned as S
 use Rattle.handling.proofs.Turned.Laws as S′
-use Rattle.handling.proofs.handle_line as callee
-use Rattle.handling.proofs.handle_line.Symbol as callee-def
-use Rattle.handling.proofs.handle_line.Symbol.{name as #handling·handle-line}
-use Rattle.handling.proofs.handle_line.Met as callee-thm
+use Rattle.handling.proofs.handle_next as callee
+use Rattle.handling.proofs.handle_next.Symbol as callee-def
+use Rattle.handling.proofs.handle_next.Symbol.{name as #handling·handle-next}
+use Rattle.handling.proofs.handle_next.Met as callee-thm
 use Rattle.handling.proofs.tallied.Key.{name as #handling·tallied}
 use Rattle.handling.proofs.tallied as self
 use Rattle.handling.proofs.tallied.Statement as stated
@@ -87,7 +87,7 @@ module _ {M : Type 1} (𝓤 : URA M) (H : Heap 𝓤) (A : Atoms 𝓤) (W : Given
       use1 W (‵ (fat fullShare T′.mir b o (T′.lowered h))) (W .laws .raw-at fullShare T′.mir b o (T′.lowered h)) $ frame ! $ done !)
 
 -- a reply that was returned, as the machine has it
-spelled : (r : Noted) (u : Val) → Is R.the-row r (u ∷ []) → Is R.the-row r (R′.lowered r ∷ [])
+spelled : (r : Noted) (u : Val) → Is R.the-row r (u ∷ []) → Is R.the-row r (only (LL.vals R.the-type R′.the-laws r) ∷ [])
 spelled r u is = LL.owes R.the-type R′.the-laws r (LL.owed R.the-type R′.the-laws r (u ∷ []) is)
 
 module _ {M : Type 1} (𝓤 : URA M) (H : Heap 𝓤) (A : Atoms 𝓤) (W : Given 𝓤 H A) (at-mem : Memory → SProp 𝓤) (run : Routine → Fun 𝓤) (κ₁ κ₂ κ₃ : Lft) (q₁ q₂ q₃ : Share)
@@ -111,7 +111,7 @@ module _ {M : Type 1} (𝓤 : URA M) (H : Heap 𝓤) (A : Atoms 𝓤) (W : Given
   mach = T′.lowered h
 
   abbrev kach : Val
-  kach = K′.lowered k
+  kach = only (LL.vals K.the-type K′.the-laws k)
 
   abbrev Args : Type 0
   Args = RefT (List ℕ) × (RefT (List ℕ) × (RefT (List ℕ) × (Tally × (Known × Unit {0}))))
@@ -161,17 +161,17 @@ module _ {M : Type 1} (𝓤 : URA M) (H : Heap 𝓤) (A : Atoms 𝓤) (W : Given
   abbrev Said : Noted → Tally → List ℕ → List ℕ → Type 0
   Said r w zs₂ zs₃ = Turns (now x₁) k (stateOf ys₂ ys₃ h) r w zs₂ zs₃
 
-  exits : (r : Noted) (w : Tally) (zs₂ zs₃ : List ℕ) → Said r w zs₂ zs₃ → length zs₂ ≡ length ys₂ → length zs₃ ≡ length ys₃ → Is R.the-row r (R′.lowered r ∷ []) → Is T.the-row w (T′.lowered w ∷ [])
-      → ent 𝓤 (⋆ 𝓤 H A (‵ (flft κ₃ q₃) ∷ ‵ (flft κ₂ q₂) ∷ ‵ (flft κ₁ q₁) ∷ ‵ (finally u16 γ₃ zs₃) ∷ ‵ (finally u16 γ₂ zs₂) ∷ ‵ Own₁ ∷ ‵ (owns (T.the-row ∷ K.the-row ∷ []) (h, (k, tt)) (mach ∷ [], (kach ∷ [], tt))) ∷ [])) (Post (S′.lowered (made r w)))
+  exits : (r : Noted) (w : Tally) (zs₂ zs₃ : List ℕ) → Said r w zs₂ zs₃ → length zs₂ ≡ length ys₂ → length zs₃ ≡ length ys₃ → Is R.the-row r (only (LL.vals R.the-type R′.the-laws r) ∷ []) → Is T.the-row w (T′.lowered w ∷ [])
+      → ent 𝓤 (⋆ 𝓤 H A (‵ (flft κ₃ q₃) ∷ ‵ (flft κ₂ q₂) ∷ ‵ (flft κ₁ q₁) ∷ ‵ (finally u16 γ₃ zs₃) ∷ ‵ (finally u16 γ₂ zs₂) ∷ ‵ Own₁ ∷ ‵ (owns (T.the-row ∷ K.the-row ∷ []) (h, (k, tt)) (mach ∷ [], (kach ∷ [], tt))) ∷ [])) (Post (only (LL.vals S.the-type S′.the-laws (made r w))))
   exits r w zs₂ zs₃ e l₂ l₃ out was =
       qed W (‵ (flft κ₃ q₃) ∷ ‵ (flft κ₂ q₂) ∷ ‵ (flft κ₁ q₁) ∷ ‵ (finally u16 γ₃ zs₃) ∷ ‵ (finally u16 γ₂ zs₂) ∷ ‵ Own₁ ∷ ‵ (owns (T.the-row ∷ K.the-row ∷ []) (h, (k, tt)) (mach ∷ [], (kach ∷ [], tt))) ∷ []) ∵
-      suffices ! _ (ends-at 𝓤 H A self.ended stayed (self.clauses 𝓤 H A at-mem run) W (((κ₁, (κ₂, (κ₃, tt))), (q₁, (q₂, (q₃, tt))), tt, a, at), tt) (S′.lowered (made r w)) (made r w) (tt, (zs₂, (zs₃, (tt, (tt, tt))))) (tt, (l₂, (l₃, (tt, (tt, tt)))))) $
+      suffices ! _ (ends-at 𝓤 H A self.ended stayed (self.clauses 𝓤 H A at-mem run) W (((κ₁, (κ₂, (κ₃, tt))), (q₁, (q₂, (q₃, tt))), tt, a, at), tt) (only (LL.vals S.the-type S′.the-laws (made r w))) (made r w) (tt, (zs₂, (zs₃, (tt, (tt, tt))))) (tt, (l₂, (l₃, (tt, (tt, tt)))))) $
       says ! e $
       move ! (3 ∷ 6 ∷ []) $ fjoin ! $ move ! (4 ∷ 0 ∷ []) $ fjoin ! $ move ! (4 ∷ 0 ∷ []) $ fjoin ! $
       owned ! S.the-row (Is S.the-row) (LL.makes S.the-type S′.the-plain 𝓤 H A) (made r w) _ (LL.owes S.the-type S′.the-laws (made r w) (out, (was, tt))) $
       nothing ! $ move ! (3 ∷ 0 ∷ []) $ join ! $ move ! (3 ∷ 0 ∷ []) $ join ! $ move ! (3 ∷ 0 ∷ []) $ join ! $ move ! (0 ∷ 2 ∷ 1 ∷ []) $ done !
 
-  module _ (C : Calls 𝓤 H) (Λ : Loops 𝓤 H) (fm : FmC 𝓤 H (W .laws) C) (known : Triple 𝓤 (C #handling·handle-line) (Callee 𝓤 H A at-mem run)) where
+  module _ (C : Calls 𝓤 H) (Λ : Loops 𝓤 H) (fm : FmC 𝓤 H (W .laws) C) (known : Triple 𝓤 (C #handling·handle-next) (Callee 𝓤 H A at-mem run)) where
     walk : Is (ShrSlice (named 0) κ₁ u8) x₁ (s₁ ∷ []) → Room u16 (length ys₂) → Room u16 (length ys₃) → Is T.the-row h (mach ∷ []) → Holds (hasTy T′.mir mach) × WT mach → Is K.the-row k (kach ∷ []) → Holds (hasTy K′.mir kach) × WT kach
         → ent 𝓤 (onEntry 𝓤 H A self.signature (κ₁, (κ₂, (κ₃, tt))) (q₁, (q₂, (q₃, tt))) a at) (WpFn 𝓤 H C Λ code.function (s₁ ∷ s₂ ∷ s₃ ∷ mach ∷ kach ∷ []) Post)
     walk line-is room₂ room₃ was wt kwas kwt =
@@ -209,13 +209,13 @@ module _ {M : Type 1} (𝓤 : URA M) (H : Heap 𝓤) (A : Atoms 𝓤) (W : Given
         move ! (1 ∷ []) $ peeks ! T.the-row (Is T.the-row) (shows 𝓤 H A T.the-row) (zs .1 .1 .1 .0) (T′.lowered (zs .1 .1 .1 .0) ∷ []) (λ came. move ! (1 ∷ 0 ∷ []) $
         -- [_5; what the new tally owns; true; t₃; t₂; t₁; the result's; true; the work words; the board; true; Own₁; what the tally owns; _12; …; _11; …; _10; …; _9; …; _8; …; _7; …; _6; …; …; _4; …; _3; …; _2; …; _1; …; room for _0; …]
         assigns ! (of-opd ! (load ! (from ! (stop !)) (look ! 0 refl))) (from ! (stop !)) (init ! 13 refl (LL.lawful T.the-type T′.the-laws 𝓤 H A W .typed (zs .1 .1 .1 .0) _ came .0)) $
-        assigns ! (agg ! (and-then ! (load ! (from ! (stop !)) (look ! 25 refl)) (and-then ! (load ! (from ! (stop !)) (look ! 13 refl)) (no-more !)))) (from ! (stop !)) (init ! 38 refl (tt, (LL.lawful R.the-type R′.the-laws 𝓤 H A W .typed r _ (spelled r u is) .0 .1, (LL.lawful T.the-type T′.the-laws 𝓤 H A W .typed (zs .1 .1 .1 .0) _ came .0 .1, tt)))) $
+        assigns ! (agg ! (and-then ! (load ! (from ! (stop !)) (look ! 25 refl)) (and-then ! (load ! (from ! (stop !)) (look ! 13 refl)) (no-more !)))) (from ! (stop !)) (init ! 38 refl (LL.lawful S.the-type S′.the-laws 𝓤 H A W .typed (made r (zs .1 .1 .1 .0)) _ (LL.owes S.the-type S′.the-laws (made r (zs .1 .1 .1 .0)) (spelled r u is, (came, tt))) .0)) $
         returns ! (look ! 38 refl) $ forget ! 0 refl $ forget ! 13 refl $ forget ! 15 refl $ forget ! 17 refl $ forget ! 19 refl $ forget ! 21 refl $ forget ! 23 refl $ forget ! 25 refl $ forget ! 28 refl $ forget ! 30 refl $ forget ! 32 refl $ forget ! 34 refl $ forget ! 36 refl $ forget ! 38 refl $
         move ! (38 ∷ 39 ∷ []) $ free1 ! $ move ! (36 ∷ 37 ∷ []) $ free1 ! $ move ! (34 ∷ 35 ∷ []) $ free1 ! $ move ! (32 ∷ 33 ∷ []) $ free1 ! $ move ! (30 ∷ 31 ∷ []) $ free1 ! $ move ! (28 ∷ 29 ∷ []) $ free1 ! $ move ! (0 ∷ 27 ∷ []) $ free1 ! $ move ! (24 ∷ 25 ∷ []) $ free1 ! $ move ! (22 ∷ 23 ∷ []) $ free1 ! $ move ! (20 ∷ 21 ∷ []) $ free1 ! $ move ! (18 ∷ 19 ∷ []) $ free1 ! $ move ! (16 ∷ 17 ∷ []) $ free1 ! $ move ! (14 ∷ 15 ∷ []) $ free1 ! $ move ! (12 ∷ 13 ∷ []) $ free1 ! $ free0 ! $
         keep ! (2 ∷ 3 ∷ 4 ∷ 7 ∷ 8 ∷ 10 ∷ 11 ∷ []) $ by ! (exits r (zs .1 .1 .1 .0) (zs .1 .0) (zs .1 .1 .0) e same₂ same₃ (spelled r u is) came)))))))))))))))))))))))))
 
 module _ {M : Type 1} (𝓤 : URA M) (H : Heap 𝓤) (A : Atoms 𝓤) (W : Given 𝓤 H A) (at-mem : Memory → SProp 𝓤) (run : Routine → Fun 𝓤) where
-  walks : (C : Calls 𝓤 H) (Λ : Loops 𝓤 H) → FmC 𝓤 H (W .laws) C → Triple 𝓤 (C #handling·handle-line) (Callee 𝓤 H A at-mem run) → Walks 𝓤 H A self.ended stayed (WpFn 𝓤 H C Λ code.function) (self.clauses 𝓤 H A at-mem run)
+  walks : (C : Calls 𝓤 H) (Λ : Loops 𝓤 H) → FmC 𝓤 H (W .laws) C → Triple 𝓤 (C #handling·handle-next) (Callee 𝓤 H A at-mem run) → Walks 𝓤 H A self.ended stayed (WpFn 𝓤 H C Λ code.function) (self.clauses 𝓤 H A at-mem run)
   walks C Λ fm known = walked 𝓤 H A self.ended stayed (self.clauses 𝓤 H A at-mem run) (WpFn 𝓤 H C Λ code.function) (λ κs. (slice-vals, (slice-vals, (slice-vals, (LL.vals T.the-type T′.the-laws, (LL.vals K.the-type K′.the-laws, tt))))))
       (λ κs. (shr-slice-tells (named 0) (κs .0) u8, (mut-slice-tells (named 1) (κs .1 .0) u16, (mut-slice-tells (named 2) (κs .1 .1 .0) u16, (LL.tells T.the-type T′.the-laws, (LL.tells K.the-type K′.the-laws, tt))))))
       (λ κs qs bounds a g are. via 𝓤 _ (fst∗ 𝓤 _ (emp 𝓤)) (walk 𝓤 H A W at-mem run (κs .0) (κs .1 .0) (κs .1 .1 .0) (qs .0) (qs .1 .0) (qs .1 .1 .0) (a .0)
@@ -226,7 +226,7 @@ module _ {M : Type 1} (𝓤 : URA M) (H : Heap 𝓤) (A : Atoms 𝓤) (W : Given
   all-go = (goes-none-slice 𝓤 H A W 3 (0 ∷ []) tt (plain (λ _. u8)) yes, (goes-gave-slice 𝓤 H A W 3 1 tt (plain (λ _. u16)), (goes-gave-slice 𝓤 H A W 3 2 tt (plain (λ _. u16)), (goes-none 𝓤 H A W 3 (λ _. T.the-row) yes (λ κs x f. refl), (goes-none 𝓤 H A W 3 (λ _. K.the-row) yes (λ κs x f. refl), tt)))))
 
 meets : {M : Type 1} (𝓤 : URA M) (H : Heap 𝓤) (A : Atoms 𝓤) (W : Given 𝓤 H A) (at-mem : Memory → SProp 𝓤) (run : Routine → Fun 𝓤) (𝓣 : Tables 𝓤 H)
-    → Triple 𝓤 (𝓣 .C #handling·handle-line) (Callee 𝓤 H A at-mem run)
+    → Triple 𝓤 (𝓣 .C #handling·handle-next) (Callee 𝓤 H A at-mem run)
     → Meets 𝓤 H A self.signature (WpFn 𝓤 H (𝓣 .C) (𝓣 .Λ) code.function) (self.spec 𝓤 H A at-mem run)
 meets 𝓤 H A W at-mem run 𝓣 known = walk-meets 𝓤 H A self.ended stayed W (all-go 𝓤 H A W at-mem run) (self.clauses 𝓤 H A at-mem run) (WpFn 𝓤 H (𝓣 .C) (𝓣 .Λ) code.function) (WpFn-mono 𝓤 H (W .laws) 𝓣 code.function)
     (walks 𝓤 H A W at-mem run (𝓣 .C) (𝓣 .Λ) (fmOf 𝓤 H (W .laws) 𝓣) known)
@@ -237,4 +237,4 @@ tallied-spec 𝓤 H 𝓜 𝓖 𝓡 =
     entered 𝓤 H (tripleOf 𝓤 H (𝓖 .A) self.signature (self.spec 𝓤 H (𝓖 .A) (𝓜 .mem) (𝓡 .run)))
     (tables 𝓤 H 𝓜 𝓡 code.env .C) (tables 𝓤 H 𝓜 𝓡 code.env .Λ) #handling·tallied code.function (code.unfolded 𝓤 H 𝓜 𝓡)
     (meets 𝓤 H (𝓖 .A) (givenOf 𝓤 H 𝓜 𝓖) (𝓜 .mem) (𝓡 .run) (tablesOf 𝓤 H 𝓜 (tables 𝓤 H 𝓜 𝓡 code.env))
-    (cited 𝓤 H (Callee 𝓤 H (𝓖 .A) (𝓜 .mem) (𝓡 .run)) 𝓜 𝓡 code.env #handling·handle-line callee-def.routine code.calls-handling·handle-line (callee-thm.met 𝓤 H 𝓜 𝓖 𝓡)))
+    (cited 𝓤 H (Callee 𝓤 H (𝓖 .A) (𝓜 .mem) (𝓡 .run)) 𝓜 𝓡 code.env #handling·handle-next callee-def.routine code.calls-handling·handle-next (callee-thm.met 𝓤 H 𝓜 𝓖 𝓡)))

@@ -8,14 +8,14 @@ use borrow.Author.Needs.{needs}
 use borrow.Author.Tests.{le-leb, lt-leb, eq-eqb, ne-eqb, not-true, not-false}
 use Rattle.matching.specs.Lists.{rising}
 use Rattle.rules.specs.Calls.{onBoard}
-use Rattle.rules.specs.Layout.{row8}
+use Rattle.rules.specs.Layout.{mostChoices, row8}
 use Rattle.rules.proofs.WordLaws.{row8-same}
 use Rattle.orders.proofs.judge.Statement.{statement}
 use Rattle.orders.proofs.judge.Tie as tie
 
 -- the order's list
 list : (s : tie.Start) → take (s .args .count) (row8 (s .args .row)) ≡ take (s .args .count) (s .args .row)
-list s = let long : length (s .args .row) ≡ 8 = omega arith in ap (take (s .args .count)) (row8-same (s .args .row) long)
+list s = let long : length (s .args .row) ≡ mostChoices = omega arith in ap (take (s .args .count)) (row8-same (s .args .row) long)
 
 -- ---- each check, as passed
 
@@ -25,8 +25,8 @@ named c = ne-eqb _ _ (c .if1 .left)
 some : (c : tie.Else2) → leb 1 (c .before .before .args .count) ≡ true
 some c = le-leb 1 (c .before .before .args .count) (omega (arith, c .if2 .left))
 
-few : (c : tie.Else3) → leb (c .before .before .before .args .count) 8 ≡ true
-few c = le-leb (c .before .before .before .args .count) 8 (omega (arith, c .if3 .left))
+few : (c : tie.Else3) → leb (c .before .before .before .args .count) mostChoices ≡ true
+few c = le-leb (c .before .before .before .args .count) mostChoices (omega (arith, c .if3 .left))
 
 -- what the two tests of the row answer
 within-is : (c : tie.After-row-within) → let a = c .before .before .before .before .args in onBoard (a .n) (take (a .count) (row8 (a .row))) ≡ c .row-within .result
@@ -50,7 +50,7 @@ returns-2 c =
 
 returns-3 : tie.Need-returns-3
 returns-3 c =
-    let z : leb (c .before .before .before .args .count) 8 ≡ false = lt-leb (c .before .before .before .args .count) 8 (omega (arith, c .if3 .taken)) in
+    let z : leb (c .before .before .before .args .count) mostChoices ≡ false = lt-leb (c .before .before .before .args .count) mostChoices (omega (arith, c .if3 .taken)) in
     simp (named (c .before .before), some (c .before), z)
 
 row-within-requires : tie.Need-row-within-requires

@@ -6,12 +6,13 @@ use native.Mathlib.Omega.{arith}
 use borrow.Author.Needs.{needs}
 use lib.ListN.{length, take, drop}
 use Rattle.matching.specs.Lists.{rising}
+use Rattle.rules.specs.Layout.{mostChoices}
 use Rattle.orders.proofs.Rows.{rise-low, rise-high, rise-more, rise-done, take-places}
 use Rattle.orders.proofs.row_rises.Statement.{statement}
 use Rattle.orders.proofs.row_rises.Tie as tie
 
 abbrev Inv-loop : tie.InvT-loop
-Inv-loop n count row end last₀ i₀ last i = (i ≤ end) × (end ≤ 8) × (rising n last (drop i (take end row)) ≡ rising n 0 (take count row))
+Inv-loop n count row end last₀ i₀ last i = (i ≤ end) × (end ≤ mostChoices) × (rising n last (drop i (take end row)) ≡ rising n 0 (take count row))
 
 abbrev μ-loop : tie.MeasureT-loop
 μ-loop n count row end last₀ i₀ last i = end - i
@@ -22,8 +23,8 @@ places-requires c κs = search needs
 loop-holds : tie.Need-loop-holds Inv-loop μ-loop
 loop-holds c =
     let a = c .before .args in
-    let long : length (a .t3) ≡ 8 = omega arith in
-    (omega arith, omega (arith, c .places .ensures), ap (λ (l : List ℕ). rising (a .n) 0 l) (ap (λ (j : ℕ). take j (a .t3)) (c .places .ensures) ∙ take-places (a .t3) (a .count) 8 long))
+    let long : length (a .t3) ≡ mostChoices = omega arith in
+    (omega arith, omega (arith, c .places .ensures), ap (λ (l : List ℕ). rising (a .n) 0 l) (ap (λ (j : ℕ). take j (a .t3)) (c .places .ensures) ∙ take-places (a .t3) (a .count) mostChoices long))
 
 mul-if1 : tie.Need-mul-if1 Inv-loop μ-loop
 mul-if1 c = search needs

@@ -4,7 +4,7 @@ use mathlib.Core.Path.{_≡_, _∙_}
 use native.Mathlib.Omega.{arith}
 use lib.ListN.{length}
 use Rattle.rules.specs.Chunks.{replyRoom}
-use Rattle.answers.specs.Handling.{stateOf}
+use Rattle.answers.specs.Values.{stateOf}
 use Rattle.slotboard.proofs.Steps.{Going, goes, goes-on, stops}
 use borrow.Author.Needs.{needs}
 use Rattle.slotboard.proofs.work_off.Statement.{statement}

@@ -19,17 +19,17 @@ loop-holds c = search needs
 feed-at-requires : tie.Need-feed-at-requires Inv-loop μ-loop
 feed-at-requires c κs = search needs
 
-sub-tallied : tie.Need-sub-tallied Inv-loop μ-loop
-sub-tallied c = search needs
+sub-handle : tie.Need-sub-handle Inv-loop μ-loop
+sub-handle c = search needs
 
-part-tallied-start : tie.Need-part-tallied-start Inv-loop μ-loop
-part-tallied-start c = search needs
+part-handle-start : tie.Need-part-handle-start Inv-loop μ-loop
+part-handle-start c = search needs
 
-part-tallied-end : tie.Need-part-tallied-end Inv-loop μ-loop
-part-tallied-end c = search needs
+part-handle-end : tie.Need-part-handle-end Inv-loop μ-loop
+part-handle-end c = search needs
 
-tallied-requires : tie.Need-tallied-requires Inv-loop μ-loop
-tallied-requires c κs = search needs
+handle-requires : tie.Need-handle-requires Inv-loop μ-loop
+handle-requires c κs = search needs
 
 same-length : tie.Need-same-length Inv-loop μ-loop
 same-length c = search needs
@@ -49,17 +49,17 @@ same-length-4 c = search needs
 returns-2 : tie.Need-returns-2 Inv-loop μ-loop
 returns-2 c = search needs
 
-sub-tallied-2 : tie.Need-sub-tallied-2 Inv-loop μ-loop
-sub-tallied-2 c = search needs
+sub-handle-2 : tie.Need-sub-handle-2 Inv-loop μ-loop
+sub-handle-2 c = search needs
 
-part-tallied-start-2 : tie.Need-part-tallied-start-2 Inv-loop μ-loop
-part-tallied-start-2 c = search needs
+part-handle-start-2 : tie.Need-part-handle-start-2 Inv-loop μ-loop
+part-handle-start-2 c = search needs
 
-part-tallied-end-2 : tie.Need-part-tallied-end-2 Inv-loop μ-loop
-part-tallied-end-2 c = search needs
+part-handle-end-2 : tie.Need-part-handle-end-2 Inv-loop μ-loop
+part-handle-end-2 c = search needs
 
-tallied-requires-2 : tie.Need-tallied-requires-2 Inv-loop μ-loop
-tallied-requires-2 c κs = search needs
+handle-requires-2 : tie.Need-handle-requires-2 Inv-loop μ-loop
+handle-requires-2 c κs = search needs
 
 add-at : tie.Need-add-at Inv-loop μ-loop
 add-at c = search needs
@@ -87,20 +87,20 @@ run-singly-spec =
     μ-loop
     loop-holds
     feed-at-requires
-    sub-tallied
-    part-tallied-start
-    part-tallied-end
-    tallied-requires
+    sub-handle
+    part-handle-start
+    part-handle-end
+    handle-requires
     same-length
     same-length-2
     returns
     same-length-3
     same-length-4
     returns-2
-    sub-tallied-2
-    part-tallied-start-2
-    part-tallied-end-2
-    tallied-requires-2
+    sub-handle-2
+    part-handle-start-2
+    part-handle-end-2
+    handle-requires-2
     add-at
     loop-less
     loop-again

@@ -4,14 +4,14 @@ use native.Mathlib.Omega.{arith}
 use borrow.Author.Tests.{leb-true, leb-false, not-true, not-false}
 use lib.ListN.{length}
 use Rattle.writing.proofs.Texts.{joins-all}
-use Rattle.writing.proofs.Blocked.{SlotsFrom, slots-none, slots-room, slots-more, slots-all}
+use Rattle.writing.proofs.Blocked.{KLinesFrom, k-lines-none, k-lines-room, k-lines-more, k-lines-all}
 use mathlib.Core.Path.{sym, _∙_}
 use borrow.Author.Needs.{needs}
 use Rattle.writing.proofs.put_blocked.Statement.{statement}
 use Rattle.writing.proofs.put_blocked.Tie as tie
 
 abbrev Inv-loop : tie.InvT-loop
-Inv-loop out₀ at blocked n end₀ i₀ out end i = SlotsFrom out₀ at blocked out end i
+Inv-loop out₀ at blocked n end₀ i₀ out end i = KLinesFrom out₀ at blocked out end i
 
 abbrev μ-loop : tie.MeasureT-loop
 μ-loop out₀ at blocked n end₀ i₀ out end i = length blocked - i
@@ -23,17 +23,17 @@ returns : tie.Need-returns Inv-loop μ-loop
 returns c =
     let a = c .before .before .before .before .args in
     let told = sym (c .before .lines-fit .ensures) ∙ not-true _ (c .if1 .taken) in
-    slots-none (a .out .now) (a .at) (a .blocked .now) (omega (arith, leb-true, leb-false))
+    k-lines-none (a .out .now) (a .at) (a .blocked .now) (omega (arith, leb-true, leb-false))
 
 loop-holds : tie.Need-loop-holds Inv-loop μ-loop
 loop-holds c = joins-all _ _ _
 
-put-slots-requires : tie.Need-put-slots-requires Inv-loop μ-loop
-put-slots-requires c κs =
+put-blocked-line-requires : tie.Need-put-blocked-line-requires Inv-loop μ-loop
+put-blocked-line-requires c κs =
     let a = c .before .before .before .before .before .before .before .args in
     let told = sym (c .before .before .before .before .lines-fit .ensures) ∙ not-false _ (c .before .before .before .if1 .left) in
     let l = c .before .before .loop in
-    (omega arith, slots-room (a .out .now) (a .at) (a .blocked .now) (omega (arith, leb-true, leb-false)) (l .out) (l .end) (l .i) (l .inv) (omega arith))
+    (omega arith, k-lines-room (a .out .now) (a .at) (a .blocked .now) (omega (arith, leb-true, leb-false)) (l .out) (l .end) (l .i) (l .inv) (omega arith))
 
 add-i : tie.Need-add-i Inv-loop μ-loop
 add-i c = search needs
@@ -45,7 +45,7 @@ loop-again : tie.Need-loop-again Inv-loop μ-loop
 loop-again c =
     let a = c .before .before .before .before .before .before .before .before .before .before .args in
     let l = c .before .before .before .before .before .loop in
-    slots-more (a .out .now) (a .at) (a .blocked .now) (l .out) (l .end) (l .i) _ _ (l .inv) (omega arith) (c .before .before .put-slots .ensures)
+    k-lines-more (a .out .now) (a .at) (a .blocked .now) (l .out) (l .end) (l .i) _ _ (l .inv) (omega arith) (c .before .before .put-blocked-line .ensures)
 
 same-length : tie.Need-same-length Inv-loop μ-loop
 same-length c = c .before .loop .inv .same
@@ -55,7 +55,7 @@ returns-2 c =
     let a = c .before .before .before .before .before .before .args in
     let told = sym (c .before .before .before .lines-fit .ensures) ∙ not-false _ (c .before .before .if1 .left) in
     let l = c .before .loop in
-    slots-all (a .out .now) (a .at) (a .blocked .now) (omega (arith, leb-true, leb-false)) (l .out) (l .end) (l .i) (l .inv) (omega arith)
+    k-lines-all (a .out .now) (a .at) (a .blocked .now) (omega (arith, leb-true, leb-false)) (l .out) (l .end) (l .i) (l .inv) (omega arith)
 
 pub put-blocked-spec : {M : Type 1} → statement M
 put-blocked-spec =
@@ -66,7 +66,7 @@ put-blocked-spec =
     lines-fit-requires
     returns
     loop-holds
-    put-slots-requires
+    put-blocked-line-requires
     add-i
     loop-less
     loop-again

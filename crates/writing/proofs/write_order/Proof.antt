@@ -5,17 +5,17 @@ use Prim.Native.Nat.{_≤_}
 use native.Mathlib.Omega.{arith}
 use borrow.Author.Needs.{needs}
 use Rattle.rules.specs.Calls.{first, orderChecks}
-use Rattle.rules.specs.Layout.{mostSlots}
-use Rattle.orders.specs.Verdict.{verdictNumber}
+use Rattle.rules.specs.Layout.{mostSlots, mostChoices}
+use Rattle.answers.specs.Numbers.{gateNumber}
 use Rattle.writing.proofs.Orders.{refuses-fault, few, refuses-4, order-room, writes}
 use Rattle.writing.proofs.write_order.Statement.{statement}
 use Rattle.writing.proofs.write_order.Tie as tie
 
 -- none of 7 to 10 turns the order down
 fine : (c : tie.After-enum-told) → let a = c .before .before .before .before .args in 0 ≡ first (orderChecks mostSlots (a .number) (a .count) (a .row) [])
-fine c = sym (ap verdictNumber (c .enum-told .given .1)) ∙ c .before .before .judge .ensures
+fine c = sym (ap gateNumber (c .enum-told .given .1)) ∙ c .before .before .judge .ensures
 
-eight : (c : tie.After-enum-told) → c .before .before .before .before .args .count ≤ 8
+eight : (c : tie.After-enum-told) → c .before .before .before .before .args .count ≤ mostChoices
 eight c =
     let a = c .before .before .before .before .args in
     few (a .number) (a .count) (a .row) (a .buffer .now) (omega arith) (fine c)
@@ -23,17 +23,14 @@ eight c =
 judge-requires : tie.Need-judge-requires
 judge-requires c κs = search needs
 
-enum-known-v : tie.Need-enum-known-v
-enum-known-v c = search needs
-
-refusal-of-requires : tie.Need-refusal-of-requires
-refusal-of-requires c κs = search needs
+enum-known-gate : tie.Need-enum-known-gate
+enum-known-gate c = search needs
 
 returns : tie.Need-returns
 returns c =
-    let a = c .before .before .before .before .before .before .args in
-    let v = c .before .before .v .given in
-    refuses-fault (a .number) (a .count) (a .row) (a .buffer .now) (omega arith) _ (v .0 .0) (c .refusal-of .ensures) (sym (ap verdictNumber (v .1)) ∙ c .before .before .before .before .judge .ensures)
+    let a = c .before .before .before .before .before .args in
+    let v = c .before .gate .given in
+    refuses-fault (a .number) (a .count) (a .row) (a .buffer .now) (omega arith) (v .0 .0) (sym (ap gateNumber (v .1)) ∙ c .before .before .before .judge .ensures)
 
 enum-told : tie.Need-enum-told
 enum-told c = search needs
@@ -49,8 +46,8 @@ returns-2 c =
     let a = c .before .before .before .before .before .args in
     refuses-4 (a .number) (a .count) (a .row) (a .buffer .now) (omega arith) (fine (c .before)) (omega arith)
 
-put-order-requires : tie.Need-put-order-requires
-put-order-requires c κs =
+put-order-line-requires : tie.Need-put-order-line-requires
+put-order-line-requires c κs =
     let d = c .before .before in
     let a = d .before .before .before .before .args in
     (eight d, order-room (a .number) (a .count) (a .row) (a .buffer .now) (omega arith) (eight d) (omega arith))
@@ -62,20 +59,19 @@ returns-3 : tie.Need-returns-3
 returns-3 c =
     let d = c .before .before .before .before .before in
     let a = d .before .before .before .before .args in
-    writes (a .number) (a .count) (a .row) (a .buffer .now) (omega arith) (fine d) (omega arith) _ _ (c .before .before .put-order .ensures)
+    writes (a .number) (a .count) (a .row) (a .buffer .now) (omega arith) (fine d) (omega arith) _ _ (c .before .before .put-order-line .ensures)
 
 pub write-order-spec : {M : Type 1} → statement M
 write-order-spec =
     tie.close
     (tie.spec
     judge-requires
-    enum-known-v
-    refusal-of-requires
+    enum-known-gate
     returns
     enum-told
     mul-if1
     add-if1
     returns-2
-    put-order-requires
+    put-order-line-requires
     same-length
     returns-3)
