@@ -5,7 +5,7 @@ use Prim.Native.Nat.{ℕ}
 use lib.ListN.{length}
 use borrow.Author.Tests.{eq-eqb, ne-eqb}
 use Rattle.rules.specs.Bringing.{answer}
-use Rattle.rules.specs.Calls.{Call, Answer, open-board, print, opened}
+use Rattle.rules.specs.Calls.{Call, Answer, open-board, print, first, openChecks, opened, act, step}
 use Rattle.rules.specs.Known.{Known, gateOf, fewOf, tidied, pastGate, performKnown, knownPast, knownAfter}
 use Rattle.rules.specs.Layout.{size}
 
@@ -39,3 +39,13 @@ opens n w work w′ e = ap (λ (v : List ℕ). answer 0 0 v work) e
 pub prints : (w work : List ℕ) (n : ℕ) → n ≡ size w → answer 0 n w work ≡ pastGate print w work
 unfolding pastGate
 prints w work n e = ap (λ (m : ℕ). answer 0 m w work) e
+
+-- an opening by itself
+module _ (n : ℕ) (w work : List ℕ) where
+  pub opening-stops : (code : ℕ) → code ≡ first (openChecks n w) → (code ≡ 0 → ⊥) → answer code 0 w work ≡ step (open-board n) w work
+  unfolding step
+  opening-stops code e h = rw (sym e, ne-eqb code 0 h)
+
+  pub opening-goes : 0 ≡ first (openChecks n w) → (w′ : List ℕ) → w′ ≡ opened n w → answer 0 0 w′ work ≡ step (open-board n) w work
+  unfolding step act
+  opening-goes e w′ f = rw (sym e) (ap (λ (v : List ℕ). answer 0 0 v work) f)

@@ -83,7 +83,7 @@ loop-again c =
     )
 
 finish-requires : tie.Need-finish-requires Inv-loop μ-loop
-finish-requires c κs = let h = c .before .before .loop .inv .0 in (h .line .after, omega (arith, h .fits, h .same))
+finish-requires c κs = let h = c .before .before .before .before .loop .inv .0 in (h .line .after, omega (arith, h .fits, h .same))
 
 same-length-4 : tie.Need-same-length-4 Inv-loop μ-loop
 same-length-4 c = search needs
@@ -95,7 +95,7 @@ same-length-6 : tie.Need-same-length-6 Inv-loop μ-loop
 same-length-6 c = search needs
 
 returns-2 : tie.Need-returns-2 Inv-loop μ-loop
-returns-2 c = c .before .before .finish .ensures _ _ _ _ _ (c .before .before .before .before .before .loop .inv .0) (c .before .before .before .before .loop-test .left)
+returns-2 c = c .before .before .finish .ensures _ _ _ (c .before .before .before .before .before .before .before .loop .inv .0) (c .before .before .before .before .before .before .loop-test .left)
 
 pub run-block-spec : {M : Type 1} → statement M
 run-block-spec =
