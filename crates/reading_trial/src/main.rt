@@ -36,11 +36,17 @@ fn same_columns(a: [u16; 10], b: [u16; 10]) -> bool {
     true
 }
 
+// The paper's number, by the library's own table.
+fn number_of(kind: reading::Kind) -> u16 {
+    let gate = reading::gate_of(kind);
+    answers::gate_number(gate)
+}
+
 // The line is read, with this letter and these columns.
 fn read(s: Score, line: &[u8], letter: u8, count: usize, columns: [u16; 10]) -> Score {
     let r = reading::read_line(line);
     let kind = r.kind;
-    if reading::refusal(kind) != 0 {
+    if number_of(kind) != 0 {
         return scored(s, false);
     }
     if reading::answer_letter(kind) != letter {
@@ -57,7 +63,7 @@ fn read(s: Score, line: &[u8], letter: u8, count: usize, columns: [u16; 10]) -> 
 fn refused(s: Score, line: &[u8], number: u16) -> Score {
     let r = reading::read_line(line);
     let kind = r.kind;
-    if reading::refusal(kind) != number {
+    if number_of(kind) != number {
         return scored(s, false);
     }
     if reading::answer_letter(kind) != b'X' {

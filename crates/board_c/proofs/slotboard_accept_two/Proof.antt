@@ -6,15 +6,15 @@ use Prim.Native.Nat.{ℕ}
 use lib.Dec.{eqb}
 use borrow.Author.Needs.{needs}
 use Rattle.rules.specs.Calls as Calls
+use Rattle.rules.specs.Known.{shownBy}
 use Rattle.answers.specs.Numbers.{code, said}
 use Rattle.answers.specs.declared.Answer.{Answer}
-use Rattle.board_c.specs.Exported.{blockedCount}
 use Rattle.board_c.proofs.slotboard_accept_two.Statement.{statement}
 use Rattle.board_c.proofs.slotboard_accept_two.Tie as tie
 
 -- an answer that is y, as the call's
-counts : (x y : Answer) (board work : List ℕ) (r : Calls.Answer) → said x board work ≡ r → x ≡ y → blockedCount (said y board work) ≡ blockedCount r
-counts x y board work r e q = ap (λ (z : Answer). blockedCount (said z board work)) (sym q) ∙ ap blockedCount e
+counts : (x y : Answer) (board work : List ℕ) (r : Calls.Answer) → said x board work ≡ r → x ≡ y → shownBy (said y board work) ≡ shownBy r
+counts x y board work r e q = ap (λ (z : Answer). shownBy (said z board work)) (sym q) ∙ ap shownBy e
 
 no-count : (b : Bool) → _≡_ {A = ℕ} 0 (cond b 0 0)
 no-count true = refl
@@ -31,6 +31,9 @@ enum-known-a-2 c = search needs
 
 enum-known-a-3 : tie.Need-enum-known-a-3
 enum-known-a-3 c = search needs
+
+enum-told : tie.Need-enum-told
+enum-told c = search needs
 
 same-length : tie.Need-same-length
 same-length c = search needs
@@ -71,6 +74,19 @@ returns-3 c = record {
   scratch = ap (λ (r : Calls.Answer). r .work) (c .before .before .before .before .before .before .before .accept .ensures);
 }
 
+same-length-7 : tie.Need-same-length-7
+same-length-7 c = search needs
+
+same-length-8 : tie.Need-same-length-8
+same-length-8 c = search needs
+
+returns-4 : tie.Need-returns-4
+returns-4 c = record {
+  answer = counts _ _ _ _ _ (c .before .before .before .before .before .before .accept .ensures) (c .enum-told .given .1);
+  left = ap (λ (r : Calls.Answer). r .board) (c .before .before .before .before .before .before .accept .ensures);
+  scratch = ap (λ (r : Calls.Answer). r .work) (c .before .before .before .before .before .before .accept .ensures);
+}
+
 pub slotboard-accept-two-spec : {M : Type 1} → statement M
 slotboard-accept-two-spec =
     tie.close
@@ -79,6 +95,7 @@ slotboard-accept-two-spec =
     enum-known-a
     enum-known-a-2
     enum-known-a-3
+    enum-told
     same-length
     same-length-2
     returns
@@ -87,4 +104,7 @@ slotboard-accept-two-spec =
     returns-2
     same-length-5
     same-length-6
-    returns-3)
+    returns-3
+    same-length-7
+    same-length-8
+    returns-4)

@@ -15,6 +15,9 @@ Inv-loop buf₀ board₀ work₀ out₀ t₀ held₀ turns₀ buf board work out
 abbrev μ-loop : tie.MeasureT-loop
 μ-loop buf₀ board₀ work₀ out₀ t₀ held₀ turns₀ buf board work out t held turns = turns
 
+new-day-requires : tie.Need-new-day-requires Inv-loop μ-loop
+new-day-requires c κs = search needs
+
 loop-holds : tie.Need-loop-holds Inv-loop μ-loop
 loop-holds c = search needs
 
@@ -66,6 +69,7 @@ read-all-spec =
     (tie.spec
     Inv-loop
     μ-loop
+    new-day-requires
     loop-holds
     sub-turns
     pull-requires
