@@ -19,6 +19,9 @@ abbrev μ-loop : tie.MeasureT-loop
 used-low : (c : tie.After-turn-both Inv-loop μ-loop) → c .before .before .before .before .before .before .before .loop .at + c .turn-both .result .used < 18446744073709551616
 used-low c = search needs
 
+new-day-requires : tie.Need-new-day-requires Inv-loop μ-loop
+new-day-requires c κs = search needs
+
 loop-holds : tie.Need-loop-holds Inv-loop μ-loop
 loop-holds c = search needs
 
@@ -76,6 +79,7 @@ run-pieces-spec =
     (tie.spec
     Inv-loop
     μ-loop
+    new-day-requires
     loop-holds
     sub-turn-both
     part-turn-both-start
