@@ -1,7 +1,7 @@
 -- The tests of a slot that holds an order, as the code makes them: `heldFine` of what was read.
 use mathlib.Core.Bool.{Bool, true, false, _&&_}
 use mathlib.Core.List.{List}
-use mathlib.Core.Path.{_≡_, sym, ap, _∙_, subst}
+use mathlib.Core.Path.{_≡_, sym, ap, _∙_}
 use Prim.Native.Nat.{ℕ, _≤_, _<_}
 use native.Mathlib.Omega.{arith}
 use lib.Dec.{leb}
@@ -9,7 +9,7 @@ use lib.ListN.{length, take}
 use borrow.Author.Tests.{le-leb, lt-leb}
 use Rattle.matching.specs.Orders.{openSlots}
 use Rattle.rules.specs.Check.{lowLabel, heldFine}
-use Rattle.rules.specs.Layout.{mostChoices, labelAt}
+use Rattle.rules.specs.Layout.{labelAt}
 use Rattle.words.specs.Carried.{carried, looseAt}
 use Rattle.words.specs.OpenSlots.{openOf}
 use Rattle.words.specs.declared.Loose.{Loose}

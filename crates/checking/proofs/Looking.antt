@@ -1,18 +1,17 @@
 -- The look for an order as the loops make it: what is left of it after slot `past`, of n slots.
 use mathlib.Core.Bool.{Bool, true, false, not, _||_}
-use mathlib.Core.List.{List, [], _∷_}
+use mathlib.Core.List.{List}
 use mathlib.Core.Path.{_≡_, refl, sym, ap, _∙_, subst}
 use Prim.Native.Nat.{ℕ, zero, suc, _+_, _-_, _≤_, _<_}
 use native.Mathlib.Decide.{ℕ-discrete}
 use native.Mathlib.Omega.{arith}
 use lib.Dec.{T}
 use borrow.Author.Tests.{eq-eqb, ne-eqb, eqb-false}
-use Rattle.matching.specs.Lists.{any}
 use Rattle.rules.specs.Calls.{findFrom}
 use Rattle.rules.specs.Layout.{numberAt}
+use Rattle.rules.proofs.Bools.{no-true}
 use Rattle.rules.proofs.Finding.{sits, find-none, find-here, find-next}
-use Rattle.checking.specs.Slots.{hasNumber}
-use Rattle.checking.proofs.RowWalks.{no-true}
+use Rattle.checking.specs.Slots.{FourLack, hasNumber}
 
 or-no : (a b : Bool) → (a || b) ≡ false → (a ≡ false) × (b ≡ false)
 or-no true b e = absurd (no-true e)
@@ -51,9 +50,10 @@ module _ (w : List ℕ) (k n : ℕ) where
     step : (p q : ℕ) → p + 1 ≡ q → q ≤ n → hasNumber w k q ≡ false → after p ≡ after q
     step p q e le f = subst (λ (j : ℕ). hasNumber w k j ≡ false → after p ≡ after j) e (λ g. after-next p (omega arith) (eqb-false (numberAt w (p + 1)) k g)) f
 
-    pub four-missed : (past : ℕ) → past + 4 ≤ n → any (hasNumber w k) ((past + 1) ∷ (past + 2) ∷ (past + 3) ∷ (past + 4) ∷ []) ≡ false → after past ≡ after (past + 4)
-    four-missed past le e =
-        let a = or-no (hasNumber w k (past + 1)) _ e in
+    pub four-missed : (past : ℕ) → FourLack n w k past → after past ≡ after (past + 4)
+    four-missed past f =
+        let le = f .there in
+        let a = or-no (hasNumber w k (past + 1)) _ (f .none) in
         let b = or-no (hasNumber w k (past + 2)) _ (a .1) in
         let c = or-no (hasNumber w k (past + 3)) _ (b .1) in
         let d = or-no (hasNumber w k (past + 4)) _ (c .1) in

@@ -1,20 +1,22 @@
 // The look for an order.
 ghost use mathlib.Core.Path.{_≡_};
-ghost use mathlib.Core.List.{[], _∷_};
+ghost use mathlib.Core.Bool.{true};
 ghost use Prim.Native.Nat.{_+_, _-_, _≤_};
 ghost use lib.ListN.{length};
 ghost use Rattle.matching.specs.Lists.{any};
 ghost use Rattle.rules.specs.Calls.{findFrom};
 ghost use Rattle.rules.specs.Layout.{boardWords};
-ghost use Rattle.checking.specs.Slots.{hasNumber};
+ghost use Rattle.checking.specs.Slots.{fourAfter, FourLack, hasNumber};
 use crate::slots::number_in;
+use words::NO_ORDER;
+use words::NO_SLOT;
 use words::board_words;
 use words::number_at;
 
 // One of the four slots after `past` has number k. Four at a time is what makes the look fast.
 fn four_hold(board: &[u16], past: u16, k: u16) -> bool
     requires { ⌜ (past + 4 ≤ 65535) × (boardWords (past + 4) ≤ length (now board)) ⌝ }
-    ensures { λ r. ⌜ r ≡ any (hasNumber (now (board .entry)) k) ((past + 1) ∷ (past + 2) ∷ (past + 3) ∷ (past + 4) ∷ []) ⌝ }
+    ensures { λ r. ⌜ r ≡ any (hasNumber (now (board .entry)) k) (fourAfter past) ⌝ }
 {
     if number_in(board, past + 1) == k {
         return true;
@@ -26,6 +28,17 @@ fn four_hold(board: &[u16], past: u16, k: u16) -> bool
         return true;
     }
     number_in(board, past + 4) == k
+}
+
+// Four slots are left after `past`, and none of them has number k.
+fn four_lack(board: &[u16], n: u16, k: u16, past: u16) -> bool
+    requires { ⌜ (past ≤ n) × (boardWords n ≤ length (now board)) ⌝ }
+    ensures { λ r. ⌜ (r ≡ true → FourLack n (now (board .entry)) k past) ⌝ }
+{
+    if (n as usize) < past as usize + 4 {
+        return false;
+    }
+    !four_hold(board, past, k)
 }
 
 // The lowest slot after `past` that holds order k, 0 where none does; slot by slot, of any words.
@@ -41,19 +54,16 @@ fn find_after(board: &[u16], n: u16, k: u16, past: u16) -> u16
         }
         seen = s;
     }
-    0
+    NO_SLOT
 }
 
-// The same of all slots, of a board that has them.
+// The lowest of all slots that holds order k, of a board that has its words. One way out of the loop keeps it short.
 fn find_fast(board: &[u16], n: u16, k: u16) -> u16
     requires { ⌜ (1 ≤ k) × (boardWords n ≤ length (now board)) ⌝ }
     ensures { λ r. ⌜ r ≡ findFrom (now (board .entry)) k n 1 ⌝ }
 {
     let mut past: u16 = 0;
-    while 4 <= n - past {
-        if four_hold(board, past, k) {
-            return find_after(board, n, k, past);
-        }
+    while four_lack(board, n, k, past) {
         past += 4;
     }
     find_after(board, n, k, past)
@@ -63,8 +73,8 @@ fn find_fast(board: &[u16], n: u16, k: u16) -> u16
 pub fn find(board: &[u16], n: u16, k: u16) -> u16
     ensures { λ r. ⌜ r ≡ findFrom (now (board .entry)) k n 1 ⌝ }
 {
-    if k == 0 {
-        return 0;
+    if k == NO_ORDER {
+        return NO_SLOT;
     }
     if board.len() < board_words(n) {
         return find_after(board, n, k, 0);

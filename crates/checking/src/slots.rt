@@ -9,6 +9,7 @@ ghost use Rattle.checking.specs.Slots.{InSlot, listFine};
 use orders::row_rises;
 use words::Loose;
 use words::MOST_CHOICES;
+use words::NO_ORDER;
 use words::Open;
 use words::SLOT_WORDS;
 use words::label_at;
@@ -82,7 +83,7 @@ fn list_fine(n: u16, s: u16, o: Loose) -> bool
     is_among(s, count, row)
 }
 
-// The label of slot s is at most 1 more than that of each other slot open to its order.
+// The label of slot s is at most 1 more than that of each slot open to its order. (Of slot s itself it is, so no look which slot it is.)
 fn labels_low(board: &[u16], s: u16, choices: Open) -> bool
     requires { ⌜ choices .count ≤ mostChoices ⌝ }
     ensures { λ r. ⌜ r ≡ lowLabel (now (board .entry)) s (take (choices .count) (choices .row)) ⌝ }
@@ -92,11 +93,8 @@ fn labels_low(board: &[u16], s: u16, choices: Open) -> bool
     let mine = label_at(board, s);
     let mut i: usize = 0;
     while i < count {
-        let t = row[i];
-        if t != s {
-            if label_at(board, t) as usize + 1 < mine as usize {
-                return false;
-            }
+        if label_at(board, row[i]) as usize + 1 < mine as usize {
+            return false;
         }
         i += 1;
     }
@@ -125,7 +123,7 @@ pub(crate) fn slot_fine(board: &[u16], n: u16, s: u16) -> bool
     requires { ⌜ InSlot (now board) s ⌝ }
     ensures { λ r. ⌜ r ≡ slotFine n (now (board .entry)) s ⌝ }
 {
-    if number_in(board, s) == 0 {
+    if number_in(board, s) == NO_ORDER {
         return is_blank(board, s);
     }
     held_fine(board, n, s)

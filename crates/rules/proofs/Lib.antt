@@ -1,6 +1,7 @@
 pub mod Letters
 pub mod WordLaws
 pub mod Fronts
+pub mod Bools
 pub mod CheckLaws
 pub mod Accept
 pub mod Checks

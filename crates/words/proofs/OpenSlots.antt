@@ -12,11 +12,11 @@ use Rattle.words.specs.declared.Loose.{Loose}
 use Rattle.words.specs.declared.Open.{Open}
 
 module _ (o : Loose) where
-  open-few : (openOf o) .count ≤ mostChoices
+  pub open-few : (openOf o) .count ≤ mostChoices
   unfolding openOf
   open-few = omega arith
 
-  open-slots : length (o .row) ≡ mostChoices → take ((openOf o) .count) ((openOf o) .row) ≡ openSlots (carried o)
+  pub open-slots : length (o .row) ≡ mostChoices → take ((openOf o) .count) ((openOf o) .row) ≡ openSlots (carried o)
   unfolding openOf openSlots
   open-slots eight = take-places (o .row) (o .count) mostChoices eight
 

@@ -1,19 +1,20 @@
 -- What a public writer answers, from whether there is room; and how many bytes its text has.
 use mathlib.Core.Path.{_≡_, sym, ap, _∙_, subst}
 use mathlib.Core.Bool.{false}
-use mathlib.Core.List.{List, [], _∷_, _++_}
+use mathlib.Core.List.{List, [], _∷_, _++_, append-assoc, append-nil}
 use Prim.Native.Nat.{ℕ, _+_, _*_, _≤_, _<_, min}
 use native.Mathlib.Omega.{arith}
 use native.Mathlib.Decide.{decLe}
 use borrow.Author.Tests.{le-leb, lt-leb}
 use lib.Dec.{leb}
-use lib.ListN.{length, take, length-take, length-append}
-use lib.Seq.{length-sets, take-all}
+use lib.ListN.{length, set, take, length-take, length-append}
+use lib.Seq.{sets, length-sets, take-all}
 use Rattle.rules.specs.AnswerLines.{answerBytes, slotsPerLine, printed}
-use Rattle.rules.proofs.TextLaws.{length-textLine}
+use Rattle.rules.specs.Text.{lineFeed, column, columns, textLine}
+use Rattle.rules.proofs.TextLaws.{length-column, length-columns, length-textLine}
 use Rattle.writing.specs.Writing.{putText, endOf, Puts, threeBytes}
 use Rattle.writing.specs.Storing.{Room, Stores}
-use Rattle.writing.proofs.Texts.{stores-next}
+use Rattle.writing.proofs.Texts.{sets-next, stores-next}
 
 -- two orders that follow from each other are one test
 pub leb-same : (a b c d : ℕ) → (a ≤ b → c ≤ d) → (c ≤ d → a ≤ b) → leb a b ≡ leb c d
@@ -88,8 +89,34 @@ module _ (out : List ℕ) (at letter c : ℕ) (vs : List ℕ) (eight : length vs
 pub length-three : (letter a b c : ℕ) → length (printed letter (a ∷ b ∷ c ∷ [])) ≡ threeBytes
 length-three letter a b c = length-textLine answerBytes letter (a ∷ b ∷ c ∷ [])
 
-pub three-room : (out : List ℕ) (at letter : ℕ) (vs : List ℕ) → length vs ≡ 3 → at + threeBytes ≤ length out → Room out at answerBytes (printed letter vs)
-three-room out at letter vs three h = record { wide = omega arith; fits = omega (arith, length-textLine answerBytes letter vs) }
+-- its letter, its columns one after another, its line feed
+pub three-stored : (out : List ℕ) (at letter a b c : ℕ) (out₁ out₂ out₃ : List ℕ) → out₁ ≡ sets (set out at letter) (at + 1) (column answerBytes a)
+    → out₂ ≡ sets out₁ (at + 1 + answerBytes) (column answerBytes b) → out₃ ≡ sets out₂ (at + 1 + 2 * answerBytes) (column answerBytes c)
+    → Stores out at (printed letter (a ∷ b ∷ c ∷ [])) (at + threeBytes) (set out₃ (at + 1 + 3 * answerBytes) lineFeed)
+unfolding textLine
+three-stored out at letter a b c out₁ out₂ out₃ e₁ e₂ e₃ = record {
+  end = omega (arith, length-three letter a b c);
+  text = ap (λ (l : List ℕ). set l (at + 1 + 3 * answerBytes) lineFeed) third
+      ∙ sets-next out at (at + 1 + 3 * answerBytes) (letter ∷ columns answerBytes (a ∷ b ∷ c ∷ [])) (lineFeed ∷ []) (omega (arith, length-columns answerBytes (a ∷ b ∷ c ∷ [])));
+}
+  where
+    first : out₁ ≡ sets out at (letter ∷ column answerBytes a)
+    first = e₁ ∙ sets-next out at (at + 1) (letter ∷ []) (column answerBytes a) (omega arith)
+
+    second : out₂ ≡ sets out at (letter ∷ (column answerBytes a ++ column answerBytes b))
+    second =
+        e₂ ∙ ap (λ (l : List ℕ). sets l (at + 1 + answerBytes) (column answerBytes b)) first
+        ∙ sets-next out at (at + 1 + answerBytes) (letter ∷ column answerBytes a) (column answerBytes b) (omega (arith, length-column answerBytes a))
+
+    joined : (x y z : List ℕ) → (x ++ y) ++ z ≡ x ++ (y ++ (z ++ []))
+    joined x y z = append-assoc x y z ∙ ap (λ (l : List ℕ). x ++ (y ++ l)) (sym (append-nil z))
+
+    third : out₃ ≡ sets out at (letter ∷ columns answerBytes (a ∷ b ∷ c ∷ []))
+    third =
+        e₃ ∙ ap (λ (l : List ℕ). sets l (at + 1 + 2 * answerBytes) (column answerBytes c)) second
+        ∙ sets-next out at (at + 1 + 2 * answerBytes) (letter ∷ (column answerBytes a ++ column answerBytes b)) (column answerBytes c)
+        (omega (arith, length-column answerBytes a, length-column answerBytes b, length-append (column answerBytes a) (column answerBytes b)))
+        ∙ ap (λ (l : List ℕ). sets out at (letter ∷ l)) (joined (column answerBytes a) (column answerBytes b) (column answerBytes c))
 
 -- the same by equal numbers
 pub three-as : (out : List ℕ) (at letter : ℕ) (a b c a′ b′ c′ r : ℕ) (out′ : List ℕ)

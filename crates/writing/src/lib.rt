@@ -2,7 +2,7 @@
 mod text;
 
 ghost use mathlib.Core.Path.{_≡_};
-ghost use mathlib.Core.List.{_∷_, _++_};
+ghost use mathlib.Core.List.{[], _∷_, _++_};
 ghost use Prim.Native.Nat.{_+_, _≤_, _<_};
 ghost use lib.ListN.{length, take, drop};
 ghost use Rattle.rules.specs.InputLines.{columnBytes, orderLine, written};
@@ -33,6 +33,7 @@ use text::PER_LINE;
 use text::fits;
 use text::least;
 use text::lines_fit;
+use text::put_column;
 use text::put_line;
 use text::wide;
 use words::MOST_SLOTS;
@@ -107,12 +108,17 @@ pub fn put_blocked(out: &mut [u8], at: usize, blocked: &[u16]) -> usize
     end
 }
 
-// A line of three columns.
-fn put_three(out: &mut [u8], at: usize, letter: u8, values: [u64; 3]) -> usize
+// A line of three columns, without a loop: most of what is printed.
+fn put_three(out: &mut [u8], at: usize, letter: u8, a: u64, b: u64, c: u64) -> usize
     requires { ⌜ at + threeBytes ≤ length (now out) ⌝ }
-    ensures { λ r. ⌜ Stores (now (out .entry)) at (printed letter values) r (now (out .exit)) ⌝ }
+    ensures { λ r. ⌜ Stores (now (out .entry)) at (printed letter (a ∷ b ∷ c ∷ [])) r (now (out .exit)) ⌝ }
 {
-    put_line(out, at, ANSWER_WIDTH, letter, &values)
+    out[at] = letter;
+    put_column(out, at + 1, ANSWER_WIDTH, a);
+    put_column(out, at + 1 + ANSWER_WIDTH, ANSWER_WIDTH, b);
+    put_column(out, at + 1 + 2 * ANSWER_WIDTH, ANSWER_WIDTH, c);
+    out[at + 1 + 3 * ANSWER_WIDTH] = b'\n';
+    at + THREE_BYTES
 }
 
 // The L line of slot s.
@@ -122,7 +128,7 @@ fn put_slot_line(out: &mut [u8], at: usize, board: &[u16], s: u16) -> usize
 {
     let number = number_at(board, s);
     let label = label_at(board, s);
-    put_three(out, at, b'L', [wide(s), wide(number), wide(label)])
+    put_three(out, at, b'L', wide(s), wide(number), wide(label))
 }
 
 // The L lines: one per slot.
@@ -147,8 +153,9 @@ fn put_answer_line(out: &mut [u8], at: usize, reply: Reply) -> usize
     requires { ⌜ at + threeBytes ≤ length (now out) ⌝ }
     ensures { λ r. ⌜ Stores (now (out .entry)) at (answerLine reply) r (now (out .exit)) ⌝ }
 {
-    let values = [wide(reply.number), wide(reply.refusal), reply.count];
-    put_three(out, at, reply.letter, values)
+    let number = wide(reply.number);
+    let refusal = wide(reply.refusal);
+    put_three(out, at, reply.letter, number, refusal, reply.count)
 }
 
 // The answer line and the K lines, where there is room for the first of them at least.

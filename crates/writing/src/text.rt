@@ -41,7 +41,7 @@ fn last_digit(v: u64, blank: u8) -> u8
 }
 
 // v in `width` places, from the last one to the first: a lone 0 is written, places before the number are spaces.
-fn put_column(out: &mut [u8], at: usize, width: usize, v: u64)
+pub(crate) fn put_column(out: &mut [u8], at: usize, width: usize, v: u64)
     requires { ⌜ (0 < width) × (at + width ≤ length (now out)) ⌝ }
     ensures { λ _. ⌜ now (out .exit) ≡ sets (now (out .entry)) at (column width v) ⌝ }
 {

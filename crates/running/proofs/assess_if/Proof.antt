@@ -1,6 +1,6 @@
 use mathlib.Core.Path.{sym, _∙_}
 use borrow.Author.Needs.{needs}
-use Rattle.checking.proofs.RowWalks.{no-true}
+use Rattle.rules.proofs.Bools.{no-true}
 use Rattle.running.proofs.assess_if.Statement.{statement}
 use Rattle.running.proofs.assess_if.Tie as tie
 

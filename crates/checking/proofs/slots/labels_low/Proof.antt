@@ -1,11 +1,10 @@
-use mathlib.Core.Logic.{⊎-elim}
 use mathlib.Core.Path.{_≡_, refl, sym, _∙_}
 use Prim.Native.Nat.{_-_, _≤_}
 use native.Mathlib.Omega.{arith}
 use lib.ListN.{length, take, drop}
 use borrow.Author.Needs.{needs}
 use Rattle.rules.specs.Check.{lowLabel}
-use Rattle.checking.proofs.RowWalks.{low-stop, low-own, low-more, low-done}
+use Rattle.checking.proofs.RowWalks.{low-stop, low-more, low-done}
 use Rattle.checking.proofs.slots.labels_low.Statement.{statement}
 use Rattle.checking.proofs.slots.labels_low.Tie as tie
 
@@ -24,30 +23,30 @@ label-at-requires c κs = search needs
 loop-holds : tie.Need-loop-holds Inv-loop μ-loop
 loop-holds c = (search needs, omega (arith, eight (c .before), c .before .before .before .pre), refl)
 
-mul-t : tie.Need-mul-t Inv-loop μ-loop
-mul-t c = search needs
+mul-label-at : tie.Need-mul-label-at Inv-loop μ-loop
+mul-label-at c = search needs
 
-array-read-t : tie.Need-array-read-t Inv-loop μ-loop
-array-read-t c = search needs
+array-read-label-at : tie.Need-array-read-label-at Inv-loop μ-loop
+array-read-label-at c = search needs
 
 label-at-requires-2 : tie.Need-label-at-requires-2 Inv-loop μ-loop
 label-at-requires-2 c κs = search needs
 
-cast-if2 : tie.Need-cast-if2 Inv-loop μ-loop
-cast-if2 c = search needs
+cast-if1 : tie.Need-cast-if1 Inv-loop μ-loop
+cast-if1 c = search needs
 
-add-if2 : tie.Need-add-if2 Inv-loop μ-loop
-add-if2 c = search needs
+add-if1 : tie.Need-add-if1 Inv-loop μ-loop
+add-if1 c = search needs
 
-cast-if2-2 : tie.Need-cast-if2-2 Inv-loop μ-loop
-cast-if2-2 c = search needs
+cast-if1-2 : tie.Need-cast-if1-2 Inv-loop μ-loop
+cast-if1-2 c = search needs
 
 returns : tie.Need-returns Inv-loop μ-loop
 returns c =
-    let a = c .before .before .before .before .before .before .before .before .args in
-    let l = c .before .before .before .before .loop in
-    let m = c .before .before .before .before .before .label-at .ensures in
-    sym (low-stop (a .choices .row) (a .choices .count) (l .i) (l .inv .1) (omega arith) (a .board .now) (a .s) (c .before .before .if1 .taken) (omega (arith, m, c .before .label-at2 .ensures, c .if2 .taken))) ∙ l .inv .2
+    let l = c .before .before .before in
+    let a = l .before .before .before .before .args in
+    let m = l .before .label-at .ensures in
+    sym (low-stop (a .choices .row) (a .choices .count) (l .loop .i) (l .loop .inv .1) (omega arith) (a .board .now) (a .s) (omega (arith, m, c .before .label-at2 .ensures, c .if1 .taken))) ∙ l .loop .inv .2
 
 add-i : tie.Need-add-i Inv-loop μ-loop
 add-i c = search needs
@@ -57,22 +56,16 @@ loop-less c = search needs
 
 loop-again : tie.Need-loop-again Inv-loop μ-loop
 loop-again c =
-    let a = c .before .before .before .before .before .before .args in
-    let l = c .before .before .loop in
-    let m = c .before .before .before .label-at .ensures in (
-      search needs,
-      l .inv .1,
-      ⊎-elim
-          (λ w. low-more (a .choices .row) (a .choices .count) (l .i) (l .inv .1) (omega arith) (a .board .now) (a .s) (w .0 .taken) (omega (arith, m, w .1 .ensures, w .2 .left)) ∙ l .inv .2)
-          (λ w. low-own (a .choices .row) (a .choices .count) (l .i) (l .inv .1) (omega arith) (a .board .now) (a .s) (w .left) ∙ l .inv .2)
-          (c .if1 .came),
-    )
+    let l = c .before .before .before in
+    let a = l .before .before .before .before .args in
+    let m = l .before .label-at .ensures in
+    (search needs, l .loop .inv .1, low-more (a .choices .row) (a .choices .count) (l .loop .i) (l .loop .inv .1) (omega arith) (a .board .now) (a .s) (omega (arith, m, c .before .label-at2 .ensures, c .if1 .left)) ∙ l .loop .inv .2)
 
 returns-2 : tie.Need-returns-2 Inv-loop μ-loop
 returns-2 c =
-    let a = c .before .before .before .before .before .args in
-    let l = c .before .loop in
-    sym (low-done (a .choices .row) (a .choices .count) (l .i) (l .inv .1) (omega arith) (a .board .now) (a .s)) ∙ l .inv .2
+    let l = c .before in
+    let a = l .before .before .before .before .args in
+    sym (low-done (a .choices .row) (a .choices .count) (l .loop .i) (l .loop .inv .1) (omega arith) (a .board .now) (a .s)) ∙ l .loop .inv .2
 
 pub labels-low-spec : {M : Type 1} → statement M
 labels-low-spec =
@@ -82,12 +75,12 @@ labels-low-spec =
     μ-loop
     label-at-requires
     loop-holds
-    mul-t
-    array-read-t
+    mul-label-at
+    array-read-label-at
     label-at-requires-2
-    cast-if2
-    add-if2
-    cast-if2-2
+    cast-if1
+    add-if1
+    cast-if1-2
     returns
     add-i
     loop-less
