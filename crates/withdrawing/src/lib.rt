@@ -39,15 +39,14 @@ fn relabel_slow(board: &mut [u16], n: u16)
     }
 }
 
-// The same for a slot that the board has.
+// The same for a slot that the board has. A label that stays is stored too: which slots are free is nothing that a branch could foresee.
 fn relabel_in(board: &mut [u16], s: u16)
     requires { ⌜ (1 ≤ s) × (boardWords s ≤ length (now board)) ⌝ }
     ensures { λ _. ⌜ now (board .exit) ≡ relabelled (now (board .entry)) s ⌝ }
 {
     let at = start_of(s);
-    if board[at] != 0 {
-        board[at + LABEL] = 1;
-    }
+    let label = board[at + LABEL];
+    board[at + LABEL] = if board[at] != 0 { 1 } else { label };
 }
 
 // Each slot of a board that has its words.

@@ -46,10 +46,13 @@ module _ (out : List ℕ) (at : ℕ) (blocked : List ℕ) where
         let done = joins-done out at (blockedLines blocked) out′ end (subst (λ (l : List ℕ). Joins out at (blockedLines blocked) out′ end l) none j) in
         puts-all out at (blockedLines blocked) (omega (arith, length-blockedLines blocked)) end out′ (record { end = done .0; text = done .1 })
 
--- a row that starts with the k slots from number i on
-pub k-line-row : (blocked : List ℕ) (i k : ℕ) (row : List ℕ) → k ≡ min slotsPerLine (length blocked - i) → take k row ≡ take k (drop i blocked) → take k row ≡ take slotsPerLine (drop i blocked)
-k-line-row blocked i k row least same = same ∙ go (decLe slotsPerLine (length blocked - i))
+-- the k slots from number i on that a line has
+pub k-line : (blocked : List ℕ) (i k : ℕ) → k ≡ min slotsPerLine (length blocked - i) → take (i + k - i) (drop i blocked) ≡ take slotsPerLine (drop i blocked)
+k-line blocked i k least = ap (λ (j : ℕ). take j (drop i blocked)) same ∙ go (decLe slotsPerLine (length blocked - i))
   where
+    same : i + k - i ≡ k
+    same = omega arith
+
     go : Dec (slotsPerLine ≤ length blocked - i) → take k (drop i blocked) ≡ take slotsPerLine (drop i blocked)
     go (yes h) = let e : k ≡ slotsPerLine = omega arith in ap (λ (j : ℕ). take j (drop i blocked)) e
     go (no n) = take-all k (drop i blocked) (omega (arith, length-drop i blocked)) ∙ sym (take-all slotsPerLine (drop i blocked) (omega (arith, length-drop i blocked)))

@@ -55,35 +55,6 @@ module _ (out : List ℕ) (at : ℕ) (a b : List ℕ) where
       let room : mid + length b ≤ length out₁ = omega (arith, first .end, ap length (first .text), length-sets out at a) in
       puts-all out at (a ++ b) (omega (arith, length-append a b)) r out₂ (stores-next out at a b mid out₁ r out₂ first (puts-stored out₁ mid b room r out₂ p))
 
--- ---- an answer: k of its values are written
-
-module _ (out : List ℕ) (at letter c : ℕ) (vs : List ℕ) (eight : length vs ≡ slotsPerLine) (k : ℕ) (least : k ≡ min c slotsPerLine) where
-  same-values : take k vs ≡ take c vs
-  same-values = go (decLe c slotsPerLine)
-    where
-      go : Dec (c ≤ slotsPerLine) → take k vs ≡ take c vs
-      go (yes h) = let e : k ≡ c = omega arith in ap (λ (j : ℕ). take j vs) e
-      go (no n) = take-all k vs (omega arith) ∙ sym (take-all c vs (omega arith))
-
-  abbrev text : List ℕ
-  text = printed letter (take k vs)
-
-  long : length text ≡ answerBytes * k + 2
-  long = omega (arith, length-textLine answerBytes letter (take k vs), length-take k vs)
-
-  of-values : (r : ℕ) (out′ : List ℕ) → Puts out at text r out′ → Puts out at (printed letter (take c vs)) r out′
-  of-values r out′ p = subst (λ (us : List ℕ). Puts out at (printed letter us) r out′) same-values p
-
-  pub answer-none : length out < at + (answerBytes * k + 2) → Puts out at (printed letter (take c vs)) at out
-  answer-none h = of-values at out (puts-none out at text (omega (arith, long)))
-
-  module _ (h : at + (answerBytes * k + 2) ≤ length out) where
-    pub answer-room : Room out at answerBytes text
-    answer-room = record { wide = omega arith; fits = omega (arith, long) }
-
-    pub answer-all : (r : ℕ) (out′ : List ℕ) → Stores out at text r out′ → Puts out at (printed letter (take c vs)) r out′
-    answer-all r out′ s = of-values r out′ (puts-all out at text (omega (arith, long)) r out′ s)
-
 -- ---- lines of three columns
 
 pub length-three : (letter a b c : ℕ) → length (printed letter (a ∷ b ∷ c ∷ [])) ≡ threeBytes

@@ -9,13 +9,6 @@ use lib.Seq.{getD-drop, take-suc, take-suc-set}
 use Rattle.rules.specs.Layout.{mostChoices, word, reads}
 use Rattle.rules.proofs.WordLaws.{reads-is}
 
--- one more word of a part is copied
-pub copy-more : (row l : List ℕ) (at i v : ℕ) → i < length row → at + i < length l → v ≡ getD l (at + i) 0 → take i row ≡ take i (drop at l) → take (i + 1) (set row i v) ≡ take (i + 1) (drop at l)
-copy-more row l at i v h g e same =
-    ap (λ (j : ℕ). take j (set row i v)) (add-one i) ∙ take-suc-set row i v h
-    ∙ ap₂ (λ (p : List ℕ) (x : ℕ). p ++ (x ∷ [])) same (e ∙ sym (getD-drop at l i 0))
-    ∙ sym (take-suc (drop at l) i 0 (omega (arith, length-drop at l))) ∙ ap (λ (j : ℕ). take j (drop at l)) (sym (add-one i))
-
 -- a list of eight, number by number
 pub row-eight : (l : List ℕ) → length l ≡ mostChoices
     → getD l 0 0 ∷ getD l 1 0 ∷ getD l 2 0 ∷ getD l 3 0 ∷ getD l 4 0 ∷ getD l 5 0 ∷ getD l 6 0 ∷ getD l 7 0 ∷ [] ≡ l

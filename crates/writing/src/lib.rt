@@ -56,39 +56,13 @@ pub enum Wrote {
     Refused(Refusal),
 }
 
-// A letter and the first `count` values ten wide, all eight if there are no more.
-pub fn put_answer(out: &mut [u8], at: usize, letter: u8, values: [u64; 8], count: usize) -> usize
-    ensures { λ r. ⌜ Puts (now (out .entry)) at (printed letter (take count values)) r (now (out .exit)) ⌝ }
-{
-    let k = least(count, PER_LINE);
-    if !fits(out.len(), at, ANSWER_WIDTH * k + FRAME) {
-        return at;
-    }
-    put_line(out, at, ANSWER_WIDTH, letter, &values[..k])
-}
-
-// `count` words from `from` on, as the start of a row of values.
-fn values_from(words: &[u16], from: usize, count: usize) -> [u64; 8]
-    requires { ⌜ (count ≤ slotsPerLine) × (from + count ≤ length (now words)) ⌝ }
-    ensures { λ r. ⌜ take count r ≡ take count (drop from (now (words .entry))) ⌝ }
-{
-    let mut row: [u64; 8] = [0; 8];
-    let mut i: usize = 0;
-    while i < count {
-        row[i] = wide(words[from + i]);
-        i += 1;
-    }
-    row
-}
-
 // The K line of the slots from number i on, up to eight of them.
 fn put_blocked_line(out: &mut [u8], at: usize, blocked: &[u16], i: usize) -> usize
     requires { ⌜ (i < length (now blocked)) × Room (now out) at answerBytes (blockedLine (now blocked) i) ⌝ }
     ensures { λ r. ⌜ Stores (now (out .entry)) at (blockedLine (now (blocked .entry)) i) r (now (out .exit)) ⌝ }
 {
-    let k = least(PER_LINE, blocked.len() - i);
-    let row = values_from(blocked, i, k);
-    put_line(out, at, ANSWER_WIDTH, b'K', &row[..k])
+    let end = i + least(PER_LINE, blocked.len() - i);
+    put_line(out, at, ANSWER_WIDTH, b'K', &blocked[i..end])
 }
 
 // The K lines: the blocked slots, eight to a line.
@@ -208,26 +182,33 @@ pub fn put_reply(reply: Reply, board: &[u16], work: &[u16], out: &mut [u8], at: 
 pub fn close(t: Tally, out: &mut [u8]) -> usize
     ensures { λ r. ⌜ Closes t (now (out .entry)) r (now (out .exit)) ⌝ }
 {
-    let lines = t.lines as u64;
-    let accepted = t.accepted as u64;
-    let refused = t.refused as u64;
-    put_answer(out, 0, b'N', [lines, accepted, refused, 0, 0, 0, 0, 0], 3)
+    if out.len() < THREE_BYTES {
+        return 0;
+    }
+    put_three(
+        out,
+        0,
+        b'N',
+        t.lines as u64,
+        t.accepted as u64,
+        t.refused as u64,
+    )
 }
 
 // The columns of an order's line: its number, then its row.
-fn order_values(number: u16, row: [u16; 8]) -> [u64; 9]
+fn order_values(number: u16, row: [u16; 8]) -> [u16; 9]
     ensures { λ r. ⌜ r ≡ number ∷ row ⌝ }
 {
     [
-        wide(number),
-        wide(row[0]),
-        wide(row[1]),
-        wide(row[2]),
-        wide(row[3]),
-        wide(row[4]),
-        wide(row[5]),
-        wide(row[6]),
-        wide(row[7]),
+        number,
+        row[0],
+        row[1],
+        row[2],
+        row[3],
+        row[4],
+        row[5],
+        row[6],
+        row[7],
     ]
 }
 

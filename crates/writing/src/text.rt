@@ -56,8 +56,8 @@ pub(crate) fn put_column(out: &mut [u8], at: usize, width: usize, v: u64)
     }
 }
 
-// A letter, a column for each value, a line feed. The answer is the position after it.
-pub(crate) fn put_line(out: &mut [u8], at: usize, width: usize, letter: u8, values: &[u64]) -> usize
+// A letter, a column for each number, a line feed. The answer is the position after it.
+pub(crate) fn put_line(out: &mut [u8], at: usize, width: usize, letter: u8, values: &[u16]) -> usize
     requires { ⌜ Room (now out) at width (textLine width letter (now values)) ⌝ }
     ensures { λ r. ⌜ Stores (now (out .entry)) at (textLine width letter (now (values .entry))) r (now (out .exit)) ⌝ }
 {
@@ -65,7 +65,7 @@ pub(crate) fn put_line(out: &mut [u8], at: usize, width: usize, letter: u8, valu
     let mut end = at + 1;
     let mut i: usize = 0;
     while i < values.len() {
-        put_column(out, end, width, values[i]);
+        put_column(out, end, width, wide(values[i]));
         end += width;
         i += 1;
     }

@@ -1,85 +1,46 @@
--- `writing::order_values` meets its contract.
 use native.Mathlib.Omega.{arith}
-use Rattle.writing.proofs.Rows.{row-eight}
 use borrow.Author.Needs.{needs}
+use Rattle.writing.proofs.Rows.{row-eight}
 use Rattle.writing.proofs.order_values.Statement.{statement}
 use Rattle.writing.proofs.order_values.Tie as tie
 
-wide-requires : tie.Need-wide-requires
-wide-requires c κs = search needs
+array-read-t6 : tie.Need-array-read-t6
+array-read-t6 c = search needs
 
-array-read-wide : tie.Need-array-read-wide
-array-read-wide c = search needs
+array-read-t9 : tie.Need-array-read-t9
+array-read-t9 c = search needs
 
-wide-requires-2 : tie.Need-wide-requires-2
-wide-requires-2 c κs = search needs
+array-read-t12 : tie.Need-array-read-t12
+array-read-t12 c = search needs
 
-array-read-wide-2 : tie.Need-array-read-wide-2
-array-read-wide-2 c = search needs
+array-read-t15 : tie.Need-array-read-t15
+array-read-t15 c = search needs
 
-wide-requires-3 : tie.Need-wide-requires-3
-wide-requires-3 c κs = search needs
+array-read-t18 : tie.Need-array-read-t18
+array-read-t18 c = search needs
 
-array-read-wide-3 : tie.Need-array-read-wide-3
-array-read-wide-3 c = search needs
+array-read-t21 : tie.Need-array-read-t21
+array-read-t21 c = search needs
 
-wide-requires-4 : tie.Need-wide-requires-4
-wide-requires-4 c κs = search needs
+array-read-t24 : tie.Need-array-read-t24
+array-read-t24 c = search needs
 
-array-read-wide-4 : tie.Need-array-read-wide-4
-array-read-wide-4 c = search needs
-
-wide-requires-5 : tie.Need-wide-requires-5
-wide-requires-5 c κs = search needs
-
-array-read-wide-5 : tie.Need-array-read-wide-5
-array-read-wide-5 c = search needs
-
-wide-requires-6 : tie.Need-wide-requires-6
-wide-requires-6 c κs = search needs
-
-array-read-wide-6 : tie.Need-array-read-wide-6
-array-read-wide-6 c = search needs
-
-wide-requires-7 : tie.Need-wide-requires-7
-wide-requires-7 c κs = search needs
-
-array-read-wide-7 : tie.Need-array-read-wide-7
-array-read-wide-7 c = search needs
-
-wide-requires-8 : tie.Need-wide-requires-8
-wide-requires-8 c κs = search needs
-
-array-read-wide-8 : tie.Need-array-read-wide-8
-array-read-wide-8 c = search needs
-
-wide-requires-9 : tie.Need-wide-requires-9
-wide-requires-9 c κs = search needs
+array-read-t27 : tie.Need-array-read-t27
+array-read-t27 c = search needs
 
 returns : tie.Need-returns
-returns c =
-    let a = c .before .before .before .before .before .before .before .before .before .args in
-    cc (row-eight (a .t2) (omega arith))
+returns c = let a = c .args in cc (row-eight (a .t2) (omega arith))
 
 pub order-values-spec : {M : Type 1} → statement M
 order-values-spec =
     tie.close
     (tie.spec
-    wide-requires
-    array-read-wide
-    wide-requires-2
-    array-read-wide-2
-    wide-requires-3
-    array-read-wide-3
-    wide-requires-4
-    array-read-wide-4
-    wide-requires-5
-    array-read-wide-5
-    wide-requires-6
-    array-read-wide-6
-    wide-requires-7
-    array-read-wide-7
-    wide-requires-8
-    array-read-wide-8
-    wide-requires-9
+    array-read-t6
+    array-read-t9
+    array-read-t12
+    array-read-t15
+    array-read-t18
+    array-read-t21
+    array-read-t24
+    array-read-t27
     returns)

@@ -1,9 +1,5 @@
--- `writing::put_blocked_line` meets its contract.
-use mathlib.Core.Path.{sym}
-use native.Mathlib.Omega.{arith}
-use lib.Seq.{length-take-le}
-use Rattle.writing.proofs.Blocked.{k-line-row}
 use borrow.Author.Needs.{needs}
+use Rattle.writing.proofs.Blocked.{k-line}
 use Rattle.writing.proofs.put_blocked_line.Statement.{statement}
 use Rattle.writing.proofs.put_blocked_line.Tie as tie
 
@@ -13,33 +9,35 @@ sub-least c = search needs
 least-requires : tie.Need-least-requires
 least-requires c κs = search needs
 
-values-from-requires : tie.Need-values-from-requires
-values-from-requires c κs = search needs
+add-end : tie.Need-add-end
+add-end c = search needs
 
-array-share-prefix-row : tie.Need-array-share-prefix-row
-array-share-prefix-row c = search needs
+mul-put-line : tie.Need-mul-put-line
+mul-put-line c = search needs
 
-slice-aggregate-put-line : tie.Need-slice-aggregate-put-line
-slice-aggregate-put-line c =
-    let k = c .before .before .before .least .result in
-    sym (length-take-le k (c .before .before .values-from .result) (omega arith))
+sub-put-line : tie.Need-sub-put-line
+sub-put-line c = search needs
+
+part-put-line-start : tie.Need-part-put-line-start
+part-put-line-start c = search needs
+
+part-put-line-end : tie.Need-part-put-line-end
+part-put-line-end c = search needs
 
 put-line-requires : tie.Need-put-line-requires
 put-line-requires c κs =
-    let s = c .before .before .before .before .before .before in
-    let k = c .before .before .before .least in
-    let v = c .before .before .values-from in
-    rw (k-line-row (s .args .blocked .now) (s .args .i) (k .result) (v .result) (omega (arith, k .ensures)) (v .ensures)) (s .pre .1)
+    let l = c .before .before in
+    let s = l .before .before .before in
+    rw (k-line (s .args .blocked .now) (s .args .i) (l .least .result) (l .least .ensures)) (s .pre .1)
 
 same-length : tie.Need-same-length
 same-length c = search needs
 
 returns : tie.Need-returns
 returns c =
-    let a = c .before .before .before .before .before .before .before .before .before .args in
-    let k = c .before .before .before .before .before .before .least in
-    let v = c .before .before .before .before .before .values-from in
-    rw (k-line-row (a .blocked .now) (a .i) (k .result) (v .result) (omega (arith, k .ensures)) (v .ensures)) at (c .before .before .put-line .ensures)
+    let l = c .before .before .before .before .before in
+    let a = l .before .before .before .args in
+    rw (k-line (a .blocked .now) (a .i) (l .least .result) (l .least .ensures)) at (c .before .before .put-line .ensures)
 
 pub put-blocked-line-spec : {M : Type 1} → statement M
 put-blocked-line-spec =
@@ -47,9 +45,11 @@ put-blocked-line-spec =
     (tie.spec
     sub-least
     least-requires
-    values-from-requires
-    array-share-prefix-row
-    slice-aggregate-put-line
+    add-end
+    mul-put-line
+    sub-put-line
+    part-put-line-start
+    part-put-line-end
     put-line-requires
     same-length
     returns)

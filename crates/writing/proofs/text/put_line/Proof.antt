@@ -1,9 +1,10 @@
 -- `writing::text::put_line` meets its contract. The invariant: the columns that are left and the line feed join to the whole line.
-use Prim.Native.Nat.{_+_, _-_, _≤_}
-use mathlib.Core.Path.{_∙_}
+use Prim.Native.Nat.{ℕ, _+_, _-_, _≤_}
+use mathlib.Core.Path.{_≡_, ap, _∙_}
 use native.Mathlib.Omega.{arith}
-use lib.ListN.{length, drop, length-set}
-use Rattle.rules.specs.Text.{lineFeed}
+use lib.ListN.{length, getD, drop, length-set}
+use lib.Seq.{sets}
+use Rattle.rules.specs.Text.{lineFeed, column}
 use Rattle.rules.proofs.TextLaws.{length-textLine}
 use borrow.Author.Needs.{needs}
 use Rattle.writing.proofs.Texts.{Joins, joins-all, ending, line-room, feed-room, line-same, line-more, line-done}
@@ -29,24 +30,27 @@ add-end c =
 loop-holds : tie.Need-loop-holds Inv-loop μ-loop
 loop-holds c = (omega arith, joins-all _ _ _)
 
-mul-put-column : tie.Need-mul-put-column Inv-loop μ-loop
-mul-put-column c = search needs
+mul-wide : tie.Need-mul-wide Inv-loop μ-loop
+mul-wide c = search needs
 
-shared-slice-read-put-column : tie.Need-shared-slice-read-put-column Inv-loop μ-loop
-shared-slice-read-put-column c = search needs
+shared-slice-read-wide : tie.Need-shared-slice-read-wide Inv-loop μ-loop
+shared-slice-read-wide c = search needs
+
+wide-requires : tie.Need-wide-requires Inv-loop μ-loop
+wide-requires c κs = search needs
 
 put-column-requires : tie.Need-put-column-requires Inv-loop μ-loop
 put-column-requires c κs =
-    let s = c .before .before .before .before .before .before in
+    let l = c .before .before .before .before .loop in
+    let s = c .before .before .before .before .before .before .before in
     let a = s .args in
-    let l = c .before .before .before .loop in
     (s .pre .wide, line-room (a .out .now) (a .at) (a .width) (a .letter) (a .values .now) (s .pre .fits) (l .out) (l .end) (l .i) (l .inv .1) (omega arith))
 
 add-end-2 : tie.Need-add-end-2 Inv-loop μ-loop
 add-end-2 c =
-    let s = c .before .before .before .before .before .before .before .before .before in
+    let s = c .before .before .before .before .before .before .before .before .before .before in
     let a = s .args in
-    let l = c .before .before .before .before .before .before .loop in
+    let l = c .before .before .before .before .before .before .before .loop in
     omega (arith, line-room (a .out .now) (a .at) (a .width) (a .letter) (a .values .now) (s .pre .fits) (l .out) (l .end) (l .i) (l .inv .1) (omega arith), line-same (a .out .now) (a .at) (a .width) (a .letter) (a .values .now) (l .out) (l .end) (l .i) (l .inv .1))
 
 add-i : tie.Need-add-i Inv-loop μ-loop
@@ -57,9 +61,12 @@ loop-less c = omega arith
 
 loop-again : tie.Need-loop-again Inv-loop μ-loop
 loop-again c =
-    let a = c .before .before .before .before .before .before .before .before .before .args in
-    let l = c .before .before .before .before .before .before .loop in
-    (omega arith, line-more (a .out .now) (a .at) (a .width) (a .letter) (a .values .now) (l .out) (l .end) (l .i) _ (l .inv .1) (omega arith) (c .before .before .put-column .ensures))
+    let p = c .before .before in
+    let l = p .before .before .before .before .before .loop in
+    let a = p .before .before .before .before .before .before .before .before .args in
+    let stored : p .put-column .last .0 ≡ sets (l .out) (l .end) (column (a .width) (getD (a .values .now) (l .i) 0)) =
+    p .put-column .ensures ∙ ap (λ (v : ℕ). sets (l .out) (l .end) (column (a .width) v)) (p .before .wide .ensures) in
+    (omega arith, line-more (a .out .now) (a .at) (a .width) (a .letter) (a .values .now) (l .out) (l .end) (l .i) _ (l .inv .1) (omega arith) stored)
 
 slice-write-out-2 : tie.Need-slice-write-out-2 Inv-loop μ-loop
 slice-write-out-2 c =
@@ -97,8 +104,9 @@ put-line-spec =
     slice-write-out
     add-end
     loop-holds
-    mul-put-column
-    shared-slice-read-put-column
+    mul-wide
+    shared-slice-read-wide
+    wide-requires
     put-column-requires
     add-end-2
     add-i
