@@ -13,7 +13,7 @@ use words::NO_SLOT;
 use words::board_words;
 use words::number_at;
 
-// One of the four slots after `past` has number k. Four at a time is what makes the look fast.
+// One of the four slots after `past` has number k.
 fn four_hold(board: &[u16], past: u16, k: u16) -> bool
     requires { ⌜ (past + 4 ≤ 65535) × (boardWords (past + 4) ≤ length (now board)) ⌝ }
     ensures { λ r. ⌜ r ≡ any (hasNumber (now (board .entry)) k) (fourAfter past) ⌝ }
@@ -30,15 +30,18 @@ fn four_hold(board: &[u16], past: u16, k: u16) -> bool
     number_in(board, past + 4) == k
 }
 
-// Four slots are left after `past`, and none of them has number k.
-fn four_lack(board: &[u16], n: u16, k: u16, past: u16) -> bool
+// Eight slots are left after `past`, and none of them has number k.
+fn eight_lack(board: &[u16], n: u16, k: u16, past: u16) -> bool
     requires { ⌜ (past ≤ n) × (boardWords n ≤ length (now board)) ⌝ }
-    ensures { λ r. ⌜ (r ≡ true → FourLack n (now (board .entry)) k past) ⌝ }
+    ensures { λ r. ⌜ (r ≡ true → FourLack n (now (board .entry)) k past × FourLack n (now (board .entry)) k (past + 4)) ⌝ }
 {
-    if (n as usize) < past as usize + 4 {
+    if (n as usize) < past as usize + 8 {
         return false;
     }
-    !four_hold(board, past, k)
+    if four_hold(board, past, k) {
+        return false;
+    }
+    !four_hold(board, past + 4, k)
 }
 
 // The lowest slot after `past` that holds order k, 0 where none does; slot by slot, of any words.
@@ -57,14 +60,14 @@ fn find_after(board: &[u16], n: u16, k: u16, past: u16) -> u16
     NO_SLOT
 }
 
-// The lowest of all slots that holds order k, of a board that has its words. One way out of the loop keeps it short.
+// The lowest of all slots that holds order k, of a board that has its words. Eight at a time is what makes the look fast.
 fn find_fast(board: &[u16], n: u16, k: u16) -> u16
     requires { ⌜ (1 ≤ k) × (boardWords n ≤ length (now board)) ⌝ }
     ensures { λ r. ⌜ r ≡ findFrom (now (board .entry)) k n 1 ⌝ }
 {
     let mut past: u16 = 0;
-    while four_lack(board, n, k, past) {
-        past += 4;
+    while eight_lack(board, n, k, past) {
+        past += 8;
     }
     find_after(board, n, k, past)
 }

@@ -41,9 +41,11 @@ pub record Reply : Type 0 where
   pub refusal : ℕ
   pub count : ℕ
 
--- an answer with the lines that follow it, from the board and the work words that the call left
+-- the lines that follow an answer, from the board and the work words that the call left
+abbrev pub following : Reply → List ℕ → List ℕ → List ℕ
+following r w work = cond (eqb (r .refusal) 12) (blockedLines (take (r .count) work)) (cond (eqb (r .letter) (byteOf letterP) && eqb (r .refusal) 0) (slotLines w) [])
+
+-- an answer with the lines that follow it
 unfoldable pub replyText : Reply → List ℕ → List ℕ → List ℕ
 unfolding blockedFrom slotsFrom
-replyText r w work =
-    printed (r .letter) (r .number ∷ r .refusal ∷ r .count ∷ [])
-    ++ cond (eqb (r .refusal) 12) (blockedLines (take (r .count) work)) (cond (eqb (r .letter) (byteOf letterP) && eqb (r .refusal) 0) (slotLines w) [])
+replyText r w work = printed (r .letter) (r .number ∷ r .refusal ∷ r .count ∷ []) ++ following r w work

@@ -4,7 +4,8 @@ mod text;
 ghost use mathlib.Core.Path.{_≡_};
 ghost use mathlib.Core.List.{[], _∷_, _++_};
 ghost use Prim.Native.Nat.{_+_, _≤_, _<_};
-ghost use lib.ListN.{length, take, drop};
+ghost use lib.Dec.{leb};
+ghost use lib.ListN.{length, take};
 ghost use Rattle.rules.specs.InputLines.{columnBytes, orderLine, written};
 ghost use Rattle.rules.specs.AnswerLines.{
   answerBytes,
@@ -12,6 +13,7 @@ ghost use Rattle.rules.specs.AnswerLines.{
   printed,
   blockedLines,
   slotLines,
+  following,
   replyText,
 };
 ghost use Rattle.rules.specs.Layout.{mostChoices};
@@ -132,50 +134,54 @@ fn put_answer_line(out: &mut [u8], at: usize, reply: Reply) -> usize
     put_three(out, at, reply.letter, number, refusal, reply.count)
 }
 
-// The answer line and the K lines, where there is room for the first of them at least.
-fn put_with_blocked(out: &mut [u8], at: usize, reply: Reply, work: &[u16]) -> usize
-    requires { ⌜ at + threeBytes ≤ length (now out) ⌝ }
-    ensures { λ r. ⌜ Puts (now (out .entry)) at (answerLine reply ++ blockedLines (take (reply .count) (now (work .entry)))) r (now (out .exit)) ⌝ }
+// The answer line with the lines that follow it goes to `at` of a buffer of `len` bytes.
+fn reply_fits(reply: Reply, board: &[u16], work: &[u16], len: usize, at: usize) -> bool
+    ensures { λ r. ⌜ r ≡ leb (at + length (replyText (replyOf reply) (now (board .entry)) (now (work .entry)))) len ⌝ }
 {
-    let shown = blocked(work, reply.count as usize);
-    if !lines_fit(out.len(), at + THREE_BYTES, shown.len()) {
-        return at;
+    if !fits(len, at, THREE_BYTES) {
+        return false;
     }
-    let end = put_answer_line(out, at, reply);
-    put_blocked(out, end, shown)
+    let refusal = reply.refusal;
+    if refusal == NO_SLOT {
+        let shown = blocked(work, reply.count as usize);
+        return lines_fit(len, at + THREE_BYTES, shown.len());
+    }
+    if refusal != 0 {
+        return true;
+    }
+    if reply.letter != b'P' {
+        return true;
+    }
+    fits(len, at + THREE_BYTES, THREE_BYTES * size_of(board) as usize)
 }
 
-// The same with the L lines.
-fn put_with_plan(out: &mut [u8], at: usize, reply: Reply, board: &[u16]) -> usize
-    requires { ⌜ at + threeBytes ≤ length (now out) ⌝ }
-    ensures { λ r. ⌜ Puts (now (out .entry)) at (answerLine reply ++ slotLines (now (board .entry))) r (now (out .exit)) ⌝ }
+// The lines that follow an answer line.
+fn put_following(reply: Reply, board: &[u16], work: &[u16], out: &mut [u8], at: usize) -> usize
+    ensures { λ r. ⌜ Puts (now (out .entry)) at (following (replyOf reply) (now (board .entry)) (now (work .entry))) r (now (out .exit)) ⌝ }
 {
-    let n = size_of(board);
-    if !fits(out.len(), at + THREE_BYTES, THREE_BYTES * n as usize) {
+    let refusal = reply.refusal;
+    if refusal == NO_SLOT {
+        let shown = blocked(work, reply.count as usize);
+        return put_blocked(out, at, shown);
+    }
+    if refusal != 0 {
         return at;
     }
-    let end = put_answer_line(out, at, reply);
-    put_plan(out, end, board)
+    if reply.letter != b'P' {
+        return at;
+    }
+    put_plan(out, at, board)
 }
 
 // The answer line with the lines that follow it: all of them, or nothing.
 pub fn put_reply(reply: Reply, board: &[u16], work: &[u16], out: &mut [u8], at: usize) -> usize
     ensures { λ r. ⌜ Puts (now (out .entry)) at (replyText (replyOf reply) (now (board .entry)) (now (work .entry))) r (now (out .exit)) ⌝ }
 {
-    if !fits(out.len(), at, THREE_BYTES) {
+    if !reply_fits(reply, board, work, out.len(), at) {
         return at;
     }
-    let refusal = reply.refusal;
-    if refusal == NO_SLOT {
-        return put_with_blocked(out, at, reply, work);
-    }
-    if refusal != 0 {
-        return put_answer_line(out, at, reply);
-    }
-    if reply.letter != b'P' {
-        return put_answer_line(out, at, reply);
-    }
-    put_with_plan(out, at, reply, board)
+    let end = put_answer_line(out, at, reply);
+    put_following(reply, board, work, out, end)
 }
 
 // The N line, at the start of the room.
