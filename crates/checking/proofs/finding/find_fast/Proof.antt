@@ -34,9 +34,11 @@ loop-again : tie.Need-loop-again Inv-loop μ-loop
 loop-again c =
     let s = c .before .before .before .before in
     let l = c .before .before .loop in
-    let four : l .past + 4 + 4 ≡ l .past + 8 = omega arith in
-    (omega (arith, (lack c) .1 .there), sym (four-missed (s .args .board .now) (s .args .k) (s .args .n) (s .pre .0) (l .past) (lack c .0) ∙ four-missed (s .args .board .now) (s .args .k) (s .args .n) (s .pre .0) (l .past + 4) (lack c .1)
-        ∙ ap (after (s .args .board .now) (s .args .k) (s .args .n)) four) ∙ l .inv .1)
+    let four : l .past + 4 + 4 ≡ l .past + 8 = omega arith in (
+      omega (arith, (lack c) .1 .there),
+      sym (four-missed (s .args .board .now) (s .args .k) (s .args .n) (s .pre .0) (l .past) (lack c .0) ∙ four-missed (s .args .board .now) (s .args .k) (s .args .n) (s .pre .0) (l .past + 4) (lack c .1)
+          ∙ ap (after (s .args .board .now) (s .args .k) (s .args .n)) four) ∙ l .inv .1,
+    )
 
 find-after-requires : tie.Need-find-after-requires Inv-loop μ-loop
 find-after-requires c κs = search needs
