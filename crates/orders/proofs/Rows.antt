@@ -1,33 +1,14 @@
 -- Walks over the first c numbers of a row.
-use mathlib.Core.Path.{_≡_, sym, ap, ap₂, _∙_}
+use mathlib.Core.Path.{_≡_}
 use mathlib.Core.Bool.{true, false}
-use mathlib.Core.List.{List, [], _∷_}
-use Prim.Native.Nat.{ℕ, _+_, _≤_, _<_, min}
-use native.Mathlib.Decide.{decLe}
+use mathlib.Core.List.{List}
+use Prim.Native.Nat.{ℕ, _+_, _≤_, _<_}
 use native.Mathlib.Omega.{arith}
-use native.Mathlib.Numerals.{add-one}
 use borrow.Author.Tests.{lt-ltb, le-ltb, le-leb, lt-leb}
-use lib.ListN.{length, getD, take, drop, drop-of-length-le}
-use lib.Seq.{drop-cons, length-take-le, getD-take, take-all}
+use lib.ListN.{length, getD, take, drop}
 use Rattle.matching.specs.Lists.{rising}
 use Rattle.rules.specs.Calls.{onBoard}
-
-module _ (row : List ℕ) (c i : ℕ) where
-  pub rest-more : i < c → c ≤ length row → drop i (take c row) ≡ getD row i 0 ∷ drop (i + 1) (take c row)
-  rest-more h k =
-      drop-cons (take c row) i 0 (omega (arith, length-take-le c row k))
-      ∙ ap₂ (λ (u j : ℕ). u ∷ drop j (take c row)) (getD-take c row i 0 h) (sym (add-one i))
-
-  pub rest-done : c ≤ i → c ≤ length row → drop i (take c row) ≡ []
-  rest-done h k = drop-of-length-le (take c row) {i = i} (omega (arith, length-take-le c row k))
-
--- beyond its length a list has no more to take
-pub take-places : (row : List ℕ) (c m : ℕ) → length row ≡ m → take (min c m) row ≡ take c row
-take-places row c m h = go (decLe c m)
-  where
-    go : Dec (c ≤ m) → take (min c m) row ≡ take c row
-    go (yes l) = let e : min c m ≡ c = omega arith in ap (λ (j : ℕ). take j row) e
-    go (no l) = let e : min c m ≡ m = omega arith in ap (λ (j : ℕ). take j row) e ∙ take-all m row (omega arith) ∙ sym (take-all c row (omega arith))
+use Rattle.rules.proofs.Fronts.{rest-more, rest-done}
 
 -- ---- the tests over a row's first c, from place i on
 

@@ -197,14 +197,14 @@ module _ (x : ℕ) (s : List ℕ) (at c : ℕ) (even : length (drop at s) ≡ 6 
 
 -- ---- what the code knows once the columns are read
 
-pub record Known (x : ℕ) (s : List ℕ) (at left : ℕ) (kind : Kind) (number : ℕ) : Type 0 where
+pub record ReadSoFar (x : ℕ) (s : List ℕ) (at left : ℕ) (kind : Kind) (number : ℕ) : Type 0 where
   pub measured : left ≡ length s - at
   pub short : left ≤ 60
   pub even : left % 6 ≡ 0
   pub class : kind ≡ classOf (letterNamed x) (left / 6)
   pub numbered : number ≡ kindRefusal kind
 
-module _ {x : ℕ} {s : List ℕ} {at left : ℕ} {kind : Kind} {number : ℕ} (k : Known x s at left kind number) where
+module _ {x : ℕ} {s : List ℕ} {at left : ℕ} {kind : Kind} {number : ℕ} (k : ReadSoFar x s at left kind number) where
   whole : length (drop at s) ≡ 6 * (left / 6)
   whole = length-drop at s ∙ omega (arith, k .measured, k .even)
 

@@ -1,5 +1,5 @@
 -- The look for an order: `slotOf` is a slot that the order sits in, and 0 where it is not held.
-use mathlib.Core.Bool.{Bool, true, false, not}
+use mathlib.Core.Bool.{Bool, not}
 use mathlib.Core.List.{List, List·Memᴰ as Mem, Memᴰ·map, Memᴰ·of-map}
 use mathlib.Core.Logic.{_⊎_, inl, inr}
 use mathlib.Core.Path.{_≡_, refl, sym, ap, _∙_, subst}
@@ -15,15 +15,8 @@ use Rattle.matching.proofs.Seated.{seat-in, of-seat, in-slots, slots-range}
 use Rattle.matching.proofs.Sets.{any-of, of-any}
 use Rattle.rules.specs.Calls.{isHeld, findFrom, slotOf}
 use Rattle.rules.specs.Layout.{size, numberAt, orderAt, heldAt, view}
+use Rattle.rules.proofs.Bools.{is-true, is-false}
 use Rattle.rules.proofs.CheckLaws.{held-one}
-
-is-yes : (b : Bool) → T b → b ≡ true
-is-yes true t = refl
-is-yes false t = absurd t
-
-is-no : (b : Bool) → T (not b) → b ≡ false
-is-no true t = absurd t
-is-no false t = refl
 
 module _ (k : ℕ) (w : List ℕ) where
   -- order k sits in slot s
@@ -92,8 +85,8 @@ module _ (k : ℕ) (w : List ℕ) where
     where
       go : T (isHeld k w) ⊎ T (not (isHeld k w)) → Dec (slotOf k w ≡ 0) → isHeld k w ≡ not (eqb (slotOf k w) 0)
       go (inl t) (yes z) = absurd (not-zero t z)
-      go (inl t) (no z) = is-yes (isHeld k w) t ∙ sym (ap not (ne-eqb (slotOf k w) 0 z))
-      go (inr n) (yes z) = is-no (isHeld k w) n ∙ sym (ap not (eq-eqb (slotOf k w) 0 z))
+      go (inl t) (no z) = is-true (isHeld k w) t ∙ sym (ap not (ne-eqb (slotOf k w) 0 z))
+      go (inr n) (yes z) = is-false (isHeld k w) (T-not (isHeld k w) n) ∙ sym (ap not (eq-eqb (slotOf k w) 0 z))
       go (inr n) (no z) = let f = found (size w) 1 z in absurd (T-not (isHeld k w) n (held-in (slotOf k w) (f .0) (omega arith) (f .2)))
 
   -- "the slot that order k sits in"

@@ -21,18 +21,15 @@ use Rattle.rules.specs.Ledger.{ledgerOf}
 use Rattle.rules.specs.InputLines.{letterOf, values, lineRefusal, callOf}
 use Rattle.rules.specs.Runs as R
 use Rattle.rules.proofs.Accept.{take-in}
+use Rattle.rules.proofs.Bools.{is-true}
 use Rattle.rules.proofs.CheckLaws.{Passed, passed-of, of-passed}
 use Rattle.rules.proofs.Checks.{ready, fresh}
 use Rattle.rules.proofs.Known.{gate-facts, gate-is, past, performs}
-use Rattle.rules.proofs.Replies.{inv-start, few-named}
+use Rattle.rules.proofs.ReplyLengths.{inv-start, few-named}
 use Rattle.rules.proofs.Steps.{stops-early, stops-late, goes, acts, acts-open}
 use Rattle.rules.proofs.WorkWords.{cleared-zero, length-cleared, length-front, after-list}
 
 -- ---- what is true of a sound board
-
-pub is-true : (b : Bool) → T b → b ≡ true
-is-true true t = refl
-is-true false t = absurd t
 
 -- of a sound board only 6 is left to ask
 pub gate-sound : (w work : List ℕ) → Passed w → first (boardChecks w work) ≡ cond (ltb (length work) (workWords (word w 0))) 6 0

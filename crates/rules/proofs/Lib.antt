@@ -23,5 +23,5 @@ pub mod Cutting
 pub mod Streams
 pub mod TextLaws
 pub mod RoundTrip
-pub mod Replies
+pub mod ReplyLengths
 pub mod Days

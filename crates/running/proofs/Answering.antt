@@ -16,7 +16,7 @@ use Rattle.rules.specs.KnownLines.{knownLine}
 use Rattle.rules.specs.Runs as R
 use Rattle.rules.specs.Runs.{State, Out, line, spoilt, framed, handleLine, handle, outOf}
 use Rattle.rules.proofs.Knowing.{lines}
-use Rattle.rules.proofs.Replies.{handle-fits}
+use Rattle.rules.proofs.ReplyLengths.{handle-fits}
 use Rattle.answers.specs.declared.Handled.{Handled}
 use Rattle.answers.specs.declared.Reply.{Reply}
 use Rattle.answers.specs.declared.Tally.{Tally}

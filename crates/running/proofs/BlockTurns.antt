@@ -12,7 +12,7 @@ use Rattle.rules.specs.Runs.{State, Out, Item, spoilt, framed, handle, run}
 use Rattle.rules.specs.Chunks.{replyRoom, waiting, Portion, nothing, joined, lastPortion, ending, block}
 use Rattle.rules.specs.Days.{KeptByLines}
 use Rattle.rules.proofs.Streams.{block-line, block-full, block-rest, block-lines, block-run, block-step, block-idle}
-use Rattle.rules.proofs.Replies.{handle-fits}
+use Rattle.rules.proofs.ReplyLengths.{handle-fits}
 use Rattle.rules.proofs.Days.{kept-by-lines}
 use Rattle.reading.specs.Ends.{lineEnd}
 use Rattle.writing.proofs.Texts.{sets-start, sets-next}

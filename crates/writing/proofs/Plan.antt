@@ -7,7 +7,7 @@ use lib.ListN.{length}
 use Rattle.rules.specs.AnswerLines.{slotsFrom, slotLines}
 use Rattle.rules.specs.Layout.{size, numberAt, labelAt}
 use Rattle.rules.specs.Letters.{byteL}
-use Rattle.rules.proofs.Replies.{length-slots}
+use Rattle.rules.proofs.ReplyLengths.{length-slots}
 use Rattle.writing.specs.Writing.{Puts, threeBytes}
 use Rattle.writing.specs.Storing.{Stores, slotLine}
 use Rattle.writing.proofs.Texts.{Joins, joins-all, joins-more, joins-room, joins-done}

@@ -7,7 +7,8 @@ use borrow.Author.Needs.{needs}
 use lib.ListN.{length, take, drop}
 use Rattle.matching.specs.Lists.{rising}
 use Rattle.rules.specs.Layout.{mostChoices}
-use Rattle.orders.proofs.Rows.{rise-low, rise-high, rise-more, rise-done, take-places}
+use Rattle.orders.proofs.Rows.{rise-low, rise-high, rise-more, rise-done}
+use Rattle.rules.proofs.Fronts.{take-places}
 use Rattle.orders.proofs.row_rises.Statement.{statement}
 use Rattle.orders.proofs.row_rises.Tie as tie
 

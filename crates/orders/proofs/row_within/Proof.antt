@@ -7,7 +7,8 @@ use borrow.Author.Needs.{needs}
 use lib.ListN.{length, take, drop}
 use Rattle.rules.specs.Calls.{onBoard}
 use Rattle.rules.specs.Layout.{mostChoices}
-use Rattle.orders.proofs.Rows.{on-low, on-high, on-more, on-done, take-places}
+use Rattle.orders.proofs.Rows.{on-low, on-high, on-more, on-done}
+use Rattle.rules.proofs.Fronts.{take-places}
 use Rattle.orders.proofs.row_within.Statement.{statement}
 use Rattle.orders.proofs.row_within.Tie as tie
 

@@ -3,7 +3,7 @@ use mathlib.Core.Path.{_∙_}
 use denote.Ref.{now}
 use borrow.Author.Needs.{needs}
 use borrow.Author.Tests.{not-true, not-false}
-use Rattle.reading.proofs.LineLaws.{long-returned, uneven-returned, Known, kind-returned, kind-stays, columns-stop, spoilt-returned, large-returned, line-returned}
+use Rattle.reading.proofs.LineLaws.{long-returned, uneven-returned, ReadSoFar, kind-returned, kind-stays, columns-stop, spoilt-returned, large-returned, line-returned}
 use Rattle.reading.proofs.ReaderLaws.{long-stays, uneven-stays}
 use Rattle.reading.proofs.line_from.Statement.{statement}
 use Rattle.reading.proofs.line_from.Tie as tie
@@ -17,7 +17,7 @@ use Rattle.reading.proofs.refused.Reads as refused-reads
 
 -- once the letter's kind and its number are known
 known : (c : lts.After-refusal (left-after-reads.Asked, left-after-reads.Learnt, refused-reads.Asked, refused-reads.Learnt, classify-reads.Asked, classify-reads.Learnt, refusal-reads.Asked, refusal-reads.Learnt, columns-at-reads.Asked, columns-at-reads.Learnt) reads.Pre reads.Post)
-    → let start = c .before .before .before .before .before .before in Known (start .args .letter) (now (start .args .s)) (start .args .at) (c .before .before .before .before .left-after .result) (c .before .classify .result) (c .refusal .result)
+    → let start = c .before .before .before .before .before .before in ReadSoFar (start .args .letter) (now (start .args .s)) (start .args .at) (c .before .before .before .before .left-after .result) (c .before .classify .result) (c .refusal .result)
 known c = record {
   measured = c .before .before .before .before .left-after .ensures;
   short = c .before .before .before .if1 .left;

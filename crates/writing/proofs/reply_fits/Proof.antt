@@ -5,7 +5,7 @@ use borrow.Author.Tests.{leb-true, not-true, not-false}
 use borrow.Author.Needs.{needs}
 use Rattle.rules.specs.AnswerLines.{blockedLines, following}
 use Rattle.rules.specs.Layout.{size}
-use Rattle.rules.proofs.Replies.{length-slots}
+use Rattle.rules.proofs.ReplyLengths.{length-slots}
 use Rattle.rules.proofs.TextLaws.{length-blockedLines}
 use Rattle.answers.specs.Values.{replyOf}
 use Rattle.writing.specs.Storing.{linesBytes}
