@@ -1,5 +1,5 @@
 -- What is known of a lent board and lent work words, as plain data; a call that relies on it; and what is known after the call. Of whatever words:
--- where what is known is true, the call is `step`, and what is known after it is true again (`performs`, `after` in proofs/Knowing.antt).
+-- where what is known is true, the call is `step`, and what is known after it is true again (`performs`, proofs/Known.antt; `after`, proofs/Knowing.antt).
 use mathlib.Core.Bool.{cond}
 use mathlib.Core.List.{List}
 use mathlib.Core.Path.{_≡_}
