@@ -21,16 +21,10 @@ use Rattle.board.specs.Requests.{callBy}
 use Rattle.reading.specs.declared.Kind.{Kind}
 use Rattle.reading.specs.declared.Kind.the-variants.{Open, Accept, Withdraw, Print, Malformed, TooLarge}
 use Rattle.reading.specs.declared.Line.{Line}
-use Rattle.reading.specs.Reading.{kindRefusal, kindLetter, tenColumns, lineOf}
-use Rattle.reading.proofs.LineUses.{line-taken, line-refused, kind-refusal, kind-letter, value-count, most-ten, first-column, slot-row}
+use Rattle.reading.specs.declared.LineOrder.{LineOrder}
+use Rattle.reading.specs.Reading.{kindRefusal, kindLetter, tenColumns, lineOf, lineOrder}
+use Rattle.reading.proofs.LineUses.{line-taken, kind-refusal, kind-letter, first-column, order-taken}
 use Rattle.handling.specs.Turns.{askOf, lineCall}
-
--- ---- the row of an order: the eight words after the first of ten
-
-pub row-is : (l : List ℕ) → length l ≡ 10 → reads l 1 8 ≡ take 8 (drop 1 l)
-row-is l h =
-    let eight : length (take 8 (drop 1 l)) ≡ 8 = omega (arith, length-take 8 (drop 1 l), length-drop 1 l) in
-    subst (λ (k : ℕ). reads l 1 k ≡ take 8 (drop 1 l)) eight (reads-is l 1 (take 8 (drop 1 l)) (λ j low. sym (getD-take 8 (drop 1 l) j 0 (omega arith) ∙ getD-drop 1 l j 0)))
 
 -- ---- of a line's numbers its reply shows the first
 
@@ -49,13 +43,6 @@ answered-first x vs us e s r = ap (λ (m : ℕ). record { reply = record { lette
 module _ (l : List ℕ) (read : Line) (is : read ≡ lineOf l) where
   refusal-is : kindRefusal (read .kind) ≡ lineRefusal l
   refusal-is = ap (λ (t : Line). kindRefusal (t .kind)) is ∙ kind-refusal l
-
-  pub few-columns : read .count ≤ 10
-  few-columns = subst (λ (t : Line). t .count ≤ 10) (sym is) (go (lineRefusal l) refl)
-    where
-      go : (m : ℕ) → lineRefusal l ≡ m → lineOf l .count ≤ 10
-      go zero e = rw (line-taken l e) (most-ten l e)
-      go (suc m) e = rw (line-refused l (λ z. omega arith)) (omega arith)
 
   -- not read
   pub unread-as : (k : Known) (s : State) (h : R.Handled) → (kindRefusal (read .kind) ≡ 0 → ⊥) → h ≡ unread (kindRefusal (read .kind)) s → h ≡ handleKnown k l s
@@ -77,14 +64,11 @@ module _ (l : List ℕ) (read : Line) (is : read ≡ lineOf l) where
     columns-are : read .columns ≡ tenColumns (values l)
     columns-are = ap (λ (t : Line). t .columns) (is ∙ line-taken l fine)
 
-    count-is : read .count ≡ length (values l)
-    count-is = ap (λ (t : Line). t .count) (is ∙ line-taken l fine) ∙ sym (value-count l)
-
     number-is : getD (read .columns) 0 0 ≡ getD (values l) 0 0
     number-is = ap (λ (vs : List ℕ). getD vs 0 0) columns-are ∙ first-column (values l)
 
-    row-same : take 8 (drop 1 (read .columns)) ≡ row8 (drop 1 (values l))
-    row-same = ap (λ (vs : List ℕ). take 8 (drop 1 vs)) columns-are ∙ slot-row (values l)
+    order-is : lineOrder read ≡ record { number = getD (values l) 0 0; count = length (values l) - 1; row = row8 (drop 1 (values l)) }
+    order-is = ap lineOrder is ∙ order-taken l fine
 
     -- the four kinds
     by-kind : (k : Kind) → kindRefusal k ≡ 0 → callBy (askOf k) (getD (values l) 0 0) (length (values l) - 1) (row8 (drop 1 (values l))) ≡ callOf (kindLetter k) (values l)
@@ -98,7 +82,7 @@ module _ (l : List ℕ) (read : Line) (is : read ≡ lineOf l) where
 
     call-is : lineCall (askOf (read .kind)) read ≡ asked l
     call-is =
-        (λ i. callBy (askOf (read .kind)) (number-is i) (count-is i - 1) (row-same i))
+        ap (λ (o : LineOrder). callBy (askOf (read .kind)) (o .number) (o .count) (o .row)) order-is
         ∙ by-kind (read .kind) taken ∙ ap (λ (x : Letter). callOf x (values l)) letter-is
 
     pub read-as : (k : Known) (s : State) (h : R.Handled) → h ≡ answered (kindLetter (read .kind)) (read .columns) s (performKnown k (lineCall (askOf (read .kind)) read) (s .board) (s .work)) → h ≡ handleKnown k l s

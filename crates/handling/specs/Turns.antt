@@ -2,12 +2,10 @@
 use mathlib.Core.Bool.{Bool, cond}
 use mathlib.Core.List.{List}
 use mathlib.Core.Path.{_≡_}
-use Prim.Native.Nat.{ℕ, _-_}
-use lib.ListN.{getD, take, drop}
+use Prim.Native.Nat.{ℕ}
 use Rattle.rules.specs.Calls.{Call}
 use Rattle.rules.specs.Known.{performKnown, knownAfter}
 use Rattle.rules.specs.KnownLines.{handleKnown, knownLine}
-use Rattle.rules.specs.Layout.{mostChoices}
 use Rattle.rules.specs.Letters.{Letter, letterS, letterA, letterW, letterP, letterX}
 use Rattle.rules.specs.Runs as R
 use Rattle.answers.specs.declared.Tally.{Tally}
@@ -17,7 +15,7 @@ use Rattle.checking.specs.Known.{knownOf}
 use Rattle.board.specs.Requests.{callBy}
 use Rattle.board.specs.declared.Ask.{Ask}
 use Rattle.board.specs.declared.Ask.the-variants.{Open, Accept, Withdraw, Print}
-use Rattle.reading.specs.Reading.{kindLetter}
+use Rattle.reading.specs.Reading.{kindLetter, lineOrder}
 use Rattle.reading.specs.declared.Kind.{Kind}
 use Rattle.reading.specs.declared.Kind.the-variants as kind
 use Rattle.reading.specs.declared.Line.{Line}
@@ -42,7 +40,7 @@ askOf kind.Malformed = Print
 askOf kind.TooLarge = Print
 
 abbrev pub lineCall : Ask → Line → Call
-lineCall a l = callBy a (getD (l .columns) 0 0) (l .count - 1) (take mostChoices (drop 1 (l .columns)))
+lineCall a l = callBy a (lineOrder l .number) (lineOrder l .count) (lineOrder l .row)
 
 -- Internal: `firstNumber`, by what the code has of the line and of the answer
 abbrev pub numberShown : Letter → ℕ → Bool → ℕ → ℕ

@@ -1,14 +1,13 @@
 // One line: read, performed by what is known, replied, with the day's tally lent; and what is known after it.
 ghost use mathlib.Core.Path.{_≡_};
 ghost use mathlib.Core.Bool.{cond};
-ghost use Prim.Native.Nat.{_-_, _≤_};
-ghost use lib.ListN.{getD, take, drop};
-ghost use Rattle.rules.specs.Layout.{mostChoices, heldCount};
+ghost use lib.ListN.{getD};
+ghost use Rattle.rules.specs.Layout.{heldCount};
 ghost use Rattle.rules.specs.Runs.{handleLine};
 ghost use Rattle.answers.specs.Numbers.{code};
 ghost use Rattle.answers.specs.Values.{stateOf, handledOf};
 ghost use Rattle.board.specs.Requests.{callFor};
-ghost use Rattle.reading.specs.Reading.{kindLetter, mostColumns};
+ghost use Rattle.reading.specs.Reading.{kindLetter};
 ghost use Rattle.handling.specs.Turns.{Turns, askOf, lineCall, numberShown, Asks, NotRead};
 use answers::Gate;
 use answers::Handled;
@@ -27,6 +26,7 @@ use reading::Kind;
 use reading::Line;
 use reading::answer_letter;
 use reading::gate_of;
+use reading::order_of;
 use reading::read_line;
 use words::held_of;
 
@@ -62,41 +62,13 @@ fn first_of(columns: [u16; 10]) -> u16
     columns[0]
 }
 
-// The columns after the number, up to eight of them.
-fn row_of(columns: [u16; 10]) -> [u16; 8]
-    ensures { λ r. ⌜ r ≡ take mostChoices (drop 1 columns) ⌝ }
-{
-    [
-        columns[1],
-        columns[2],
-        columns[3],
-        columns[4],
-        columns[5],
-        columns[6],
-        columns[7],
-        columns[8],
-    ]
-}
-
-// The columns after the number are the choices.
-fn choices(count: usize) -> u16
-    requires { ⌜ count ≤ mostColumns ⌝ }
-    ensures { λ r. ⌜ r ≡ count - 1 ⌝ }
-{
-    if count == 0 {
-        return 0;
-    }
-    (count - 1) as u16
-}
-
 fn request_of(ask: Ask, l: Line) -> Request
-    requires { ⌜ l .count ≤ mostColumns ⌝ }
     ensures { λ r. ⌜ callFor r ≡ lineCall ask l ⌝ }
 {
-    let columns = l.columns;
-    let number = first_of(columns);
-    let count = choices(l.count);
-    let row = row_of(columns);
+    let o = order_of(l);
+    let number = o.number;
+    let count = o.count;
+    let row = o.row;
     Request {
         ask,
         number,
@@ -137,7 +109,6 @@ fn asked_line(
     t: Tally,
     known: Known,
 ) -> Turned
-    requires { ⌜ l .count ≤ mostColumns ⌝ }
     ensures { λ r. ⌜ Asks kind l known (now (board .entry)) (now (work .entry)) t r (now (board .exit)) (now (work .exit)) ⌝ }
 {
     let q = request_of(ask_of(kind), l);

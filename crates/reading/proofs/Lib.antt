@@ -3,4 +3,3 @@ pub mod ReaderCases
 pub mod ReaderLaws
 pub mod LineLaws
 pub mod LineUses
-pub mod EndLaws

@@ -1,19 +1,20 @@
 -- What a caller of `read_line` gets from its line. Assumes nothing.
 use mathlib.Core.Bool.{Bool, true, false, not, _&&_, cond}
 use mathlib.Core.List.{List, [], _∷_, _++_}
-use mathlib.Core.Path.{_≡_, refl, sym, ap, _∙_}
-use Prim.Native.Nat.{ℕ, zero, suc, _+_, _*_, _≤_}
+use mathlib.Core.Path.{_≡_, refl, sym, ap, _∙_, subst}
+use Prim.Native.Nat.{ℕ, zero, suc, _+_, _-_, _*_, _≤_, min}
 use native.Mathlib.Omega.{arith}
 use lib.Dec.{eqb, ltb, leb}
 use lib.ListN.{length, take, drop, getD, replicate, length-map}
-use lib.Seq.{take-append-seam, take-take}
+use lib.Seq.{take-append-seam, take-take, getD-take, getD-drop}
 use borrow.Author.Tests.{eqb-true, leb-true, ne-eqb}
 use Rattle.matching.specs.Lists.{all, any}
-use Rattle.rules.specs.Layout.{row8}
+use Rattle.rules.specs.Layout.{mostChoices, reads, row8}
+use Rattle.rules.proofs.WordLaws.{reads-is, length-row8}
 use Rattle.rules.specs.InputLines.{isColumn, columnValue, letterOf, columnCount, columnsFrom, mostBytes, allowed, wellFormed, values, lineRefusal}
 use Rattle.rules.specs.Letters.{Letter, letterS, letterA, letterW, letterP, letterX}
 use Rattle.reading.specs.declared.Line.{Line}
-use Rattle.reading.specs.Reading.{kindRefusal, kindLetter, kindOf, refusedAs, mostColumns, tenColumns, refusedLine, lineOf}
+use Rattle.reading.specs.Reading.{kindRefusal, kindLetter, kindOf, refusedAs, mostColumns, tenColumns, refusedLine, lineOf, lineOrder}
 use Rattle.reading.proofs.LineLaws.{zeros, take-zeros, allowed-known}
 
 -- a line that is not refused is well formed, and its numbers fit
@@ -98,6 +99,18 @@ more-zeros k a b [] h g = take-zeros a k h ∙ sym (take-zeros b k g)
 more-zeros zero a b (v ∷ vs) h g = refl
 more-zeros (suc k) a b (v ∷ vs) h g = ap (λ (l : List ℕ). v ∷ l) (more-zeros k a b vs (omega arith) (omega arith))
 
-pub slot-row : (vs : List ℕ) → take 8 (drop 1 (tenColumns vs)) ≡ row8 (drop 1 vs)
+slot-row : (vs : List ℕ) → take 8 (drop 1 (tenColumns vs)) ≡ row8 (drop 1 vs)
 slot-row [] = refl
 slot-row (v ∷ vs) = take-take 8 9 (vs ++ zeros 10) (omega arith) ∙ more-zeros 8 10 8 vs (omega arith) (omega arith)
+
+columns-row : (vs : List ℕ) → reads (tenColumns vs) 1 mostChoices ≡ row8 (drop 1 vs)
+columns-row vs =
+    subst (λ (k : ℕ). reads (tenColumns vs) 1 k ≡ row8 (drop 1 vs)) (length-row8 (drop 1 vs))
+    (reads-is (tenColumns vs) 1 (row8 (drop 1 vs)) (λ j low. sym (ap (λ (us : List ℕ). getD us j 0) (sym (slot-row vs)) ∙ getD-take 8 (drop 1 (tenColumns vs)) j 0 (omega (arith, length-row8 (drop 1 vs))) ∙ getD-drop 1 (tenColumns vs) j 0)))
+
+-- the order of a line that is taken is that of its numbers
+pub order-taken : (l : List ℕ) → lineRefusal l ≡ 0
+    → lineOrder (lineOf l) ≡ record { number = getD (values l) 0 0; count = length (values l) - 1; row = row8 (drop 1 (values l)) }
+order-taken l h =
+    let few : min (columnCount l) mostColumns - 1 ≡ length (values l) - 1 = omega (arith, most-ten l h, value-count l) in
+    ap lineOrder (line-taken l h) ∙ (λ i. record { number = first-column (values l) i; count = few i; row = columns-row (values l) i })

@@ -1,4 +1,3 @@
 pub mod Reading
 pub mod Reader
 pub mod Machine
-pub mod Ends

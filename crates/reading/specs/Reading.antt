@@ -1,10 +1,11 @@
 -- A line as the reader gives it: its kind and numbers, or the refusal of document 01's table. Bytes are without the line feed.
 use mathlib.Core.Bool.{cond}
 use mathlib.Core.List.{List, _++_}
-use Prim.Native.Nat.{ℕ}
+use Prim.Native.Nat.{ℕ, _-_, min}
 use lib.Dec.{eqb}
-use lib.ListN.{take, replicate}
+use lib.ListN.{take, getD, replicate}
 use Rattle.rules.specs.InputLines.{letterOf, columnCount, allowed, values, lineRefusal}
+use Rattle.rules.specs.Layout.{mostChoices, reads}
 use Rattle.rules.specs.Letters.{Letter, letterS, letterA, letterW, letterP, letterX}
 use Rattle.answers.specs.Numbers.{gateNumber}
 use Rattle.answers.specs.declared.Gate.{Gate}
@@ -13,6 +14,7 @@ use Rattle.answers.specs.declared.Refusal.the-variants as refusal
 use Rattle.reading.specs.declared.Kind.{Kind}
 use Rattle.reading.specs.declared.Kind.the-variants.{Open, Accept, Withdraw, Print, Malformed, TooLarge}
 use Rattle.reading.specs.declared.Line.{Line}
+use Rattle.reading.specs.declared.LineOrder.{LineOrder}
 
 -- ---- the document's refusal and letter of every kind
 
@@ -69,3 +71,7 @@ lineOf l =
     let read : Line = record { kind = kindOf (letterOf l); count = columnCount l; columns = tenColumns (values l) } in
     let code = lineRefusal l in
     cond (eqb code 0) read (refusedLine (refusedAs code))
+
+-- the order that a line's numbers give: "A: the order's number, then its slots"
+abbrev pub lineOrder : Line → LineOrder
+lineOrder l = record { number = getD (l .columns) 0 0; count = min (l .count) mostColumns - 1; row = reads (l .columns) 1 mostChoices }

@@ -1,15 +1,14 @@
 // A line from the printers: its bytes, without the line feed, as a kind and up to ten numbers, or as refusal 1 or 2.
-mod ends;
 
-pub use ends::line_end;
 ghost use mathlib.Core.Path.{_≡_};
 ghost use mathlib.Core.Bool.{true};
 ghost use mathlib.Core.List.{_∷_};
-ghost use Prim.Native.Nat.{_-_, _*_, _≤_};
+ghost use Prim.Native.Nat.{_-_, _*_, _≤_, min};
 ghost use lib.ListN.{length, take, drop, getD, replicate};
 ghost use Rattle.rules.specs.InputLines.{columnBytes};
+ghost use Rattle.rules.specs.Layout.{mostChoices, reads};
 ghost use Rattle.rules.specs.Letters.{byteOf, letterNamed};
-ghost use Rattle.reading.specs.Reading.{kindGate, kindRefusal, kindLetter, classOf, refusedLine, lineOf, mostColumns};
+ghost use Rattle.reading.specs.Reading.{kindGate, kindRefusal, kindLetter, classOf, refusedLine, lineOf, lineOrder, mostColumns};
 ghost use Rattle.reading.specs.Reader.{afterLetter, afterColumns};
 ghost use Rattle.reading.specs.Machine.{stepOf, heldBy, ended, cellOf, columnsAt, capped, gathered};
 use answers::Gate;
@@ -43,6 +42,13 @@ pub struct Line {
     pub kind: Kind,
     pub count: usize,
     pub columns: [u16; MOST_COLUMNS],
+}
+
+// An order as a line gives it: its number, how many slots it lists, and the first eight of them.
+pub struct LineOrder {
+    pub number: u16,
+    pub count: u16,
+    pub row: [u16; 8],
 }
 
 // How far the reading of a column has come.
@@ -318,6 +324,46 @@ fn line_from(s: &[u8], at: usize, letter: u8) -> LineRead
         },
         at: stop,
     }
+}
+
+// The columns after the number are the slots. The first eight are the row: check 8 turns a ninth down.
+fn row_of(columns: [u16; MOST_COLUMNS]) -> [u16; 8]
+    ensures { λ r. ⌜ r ≡ reads columns 1 mostChoices ⌝ }
+{
+    [
+        columns[1],
+        columns[2],
+        columns[3],
+        columns[4],
+        columns[5],
+        columns[6],
+        columns[7],
+        columns[8],
+    ]
+}
+
+// How many slots so many columns have, of at most ten.
+fn slots_of(columns: usize) -> u16
+    ensures { λ r. ⌜ r ≡ min columns mostColumns - 1 ⌝ }
+{
+    if columns == 0 {
+        return 0;
+    }
+    if columns < MOST_COLUMNS {
+        return (columns - 1) as u16;
+    }
+    9
+}
+
+// The order that a line's columns give.
+pub fn order_of(l: Line) -> LineOrder
+    ensures { λ r. ⌜ r ≡ lineOrder l ⌝ }
+{
+    let columns = l.columns;
+    let number = columns[0];
+    let count = slots_of(l.count);
+    let row = row_of(columns);
+    LineOrder { number, count, row }
 }
 
 // A line's bytes, and how far the reading has come.

@@ -25,3 +25,4 @@ pub mod TextLaws
 pub mod RoundTrip
 pub mod ReplyLengths
 pub mod Days
+pub mod Serving

@@ -2,7 +2,7 @@
 use Prim.Native.Nat.{ℕ, _+_, _-_}
 use mathlib.Core.List.{List, [], _∷_, _++_}
 use mathlib.Core.Bool.{Bool, true, false, cond}
-use lib.ListN.{length}
+use lib.ListN.{length, drop}
 use lib.Dec.{leb}
 use Rattle.rules.specs.InputLines.{mostBytes}
 use Rattle.rules.specs.Runs.{State, Out, Item, spoilt, framed, handle, linesFrom, restFrom}
@@ -14,6 +14,10 @@ replyRoom = 32800
 -- what is kept of an unended line that is too long already
 abbrev pub waiting : ℕ
 waiting = mostBytes + 1
+
+-- of an unended line what is kept until more comes: all of it, or, where it is too long already, as many of its last bytes as show this
+abbrev pub trimmed : List ℕ → List ℕ
+trimmed r = drop (length r - waiting) r
 
 -- how many bytes of the input a block used up, the lines that it answered, what it wrote, and the state after it
 pub record Portion : Type 0 where

@@ -14,7 +14,7 @@ use Rattle.rules.specs.Days.{KeptByLines}
 use Rattle.rules.proofs.Streams.{block-line, block-full, block-rest, block-lines, block-run, block-step, block-idle}
 use Rattle.rules.proofs.ReplyLengths.{handle-fits}
 use Rattle.rules.proofs.Days.{kept-by-lines}
-use Rattle.reading.specs.Ends.{lineEnd}
+use Rattle.framing.specs.Ends.{lineEnd}
 use Rattle.writing.proofs.Texts.{sets-start, sets-next}
 use Rattle.answers.specs.declared.Tally.{Tally}
 use Rattle.running.specs.declared.Block.{Block}

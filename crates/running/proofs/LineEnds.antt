@@ -7,8 +7,8 @@ use lib.ListN.{length, getD, take, drop, length-take, length-drop}
 use lib.Seq.{split-at, getD-drop, getD-take, drop-drop}
 use Rattle.rules.specs.Text.{lineFeed}
 use Rattle.rules.proofs.Cutting.{Clean}
-use Rattle.reading.specs.Ends.{lineEnd}
-use Rattle.reading.proofs.EndLaws.{end-within, end-found, end-first}
+use Rattle.framing.specs.Ends.{lineEnd}
+use Rattle.framing.proofs.EndLaws.{end-within, end-found, end-first}
 use Rattle.running.specs.BlockLoop.{LineEnd}
 
 pub line-ends : (s : List ℕ) (from r : ℕ) → from ≤ length s → r ≡ lineEnd s from → LineEnd s from r

@@ -17,23 +17,14 @@
 mod bench;
 mod script;
 
-use libc::STDIN_FILENO;
+use trial_kit::read_all;
 
 fn main() {
     let mut text = [0u8; 65536];
     let mut board = [0u16; 11300];
-    let mut want = [0u16; 11300];
     let mut work = [0u16; 13400];
-    let mut tokens = [0u16; 64];
-    let mut notes = [0usize; 8];
-    let n = io::read_full(STDIN_FILENO, &mut text);
-    script::run(
-        &text[..n],
-        &mut tokens,
-        &mut board,
-        &mut want,
-        &mut work,
-        &mut notes,
-    );
-    bench::close(&mut notes);
+    let mut own = [0u16; 11400];
+    let n = read_all(&mut text);
+    script::run(&text[..n], &mut board, &mut work, &mut own);
+    script::close(&mut own);
 }

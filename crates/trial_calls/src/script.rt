@@ -1,160 +1,139 @@
-// The script's bytes as lines.
-use crate::bench::LINES;
-use crate::bench::begin_group;
-use crate::bench::command;
-use crate::bench::count_up;
-use trial_words::put;
-use trial_words::say;
-use trial_words::zero_words;
+// The script's lines.
+use crate::bench::ALL_TRIED;
+use crate::bench::ALL_WRONG;
+use crate::bench::CASE;
+use crate::bench::LENT;
+use crate::bench::NUMBERS;
+use crate::bench::STRANGE;
+use crate::bench::TRIED;
+use crate::bench::WANT;
+use crate::bench::WRONG;
+use crate::bench::do_blocked;
+use crate::bench::do_call;
+use crate::bench::do_check;
+use crate::bench::do_open;
+use trial_kit::carry;
+use trial_kit::copy;
+use trial_kit::count;
+use trial_kit::fill_marks;
+use trial_kit::get;
+use trial_kit::line_end;
+use trial_kit::numbers;
+use trial_kit::put;
+use trial_kit::say;
+use trial_kit::say_count;
+use trial_kit::say_tally;
+use trial_kit::slot_word;
+use trial_kit::wide_at;
+use trial_kit::zero;
 
-// Where the numbers after `->` begin among a line's numbers.
-pub const EXPECTED: usize = 32;
-
-// A line as far as it has been read: its first byte, the digits since the last other byte, and where the next number goes.
-struct Reading {
-    letter: u8,
-    some: bool,
-    value: u32,
-    at: usize,
+// All words get their marks, in the expected board too.
+fn fresh(board: &mut [u16], own: &mut [u16]) {
+    fill_marks(board);
+    copy(board, 0, own, WANT, 11300);
+    let b = get(own, NUMBERS, 0);
+    let w = get(own, NUMBERS, 1);
+    put(own, LENT, 0, b);
+    put(own, LENT, 1, w);
 }
 
-fn nothing_read() -> Reading {
-    Reading {
-        letter: 0,
-        some: false,
-        value: 0,
-        at: 0,
+// The numbers of the line after its first, `count` of them with it, go into the words from the index that the first names.
+fn given(count: u16, board: &mut [u16], own: &mut [u16]) {
+    if count == 0 {
+        return;
+    }
+    let i = get(own, NUMBERS, 0) as usize;
+    copy(own, NUMBERS + 1, board, i, count - 1);
+    copy(board, i, own, WANT + i, count - 1);
+}
+
+fn opened(own: &mut [u16]) {
+    let n = get(own, NUMBERS, 0);
+    if 1024 < n {
+        return;
+    }
+    put(own, WANT, 0, n);
+    zero(own, WANT + 1, 11 * n + 1);
+}
+
+fn slot(own: &mut [u16]) {
+    let at = std::num::wrapping_add_usize(WANT, slot_word(get(own, NUMBERS, 0), 0));
+    let mut k: u16 = 0;
+    while k < 11 {
+        let v = get(own, NUMBERS, 1 + k);
+        put(own, at, k, v);
+        k += 1;
     }
 }
 
-fn is_digit(b: u8) -> bool {
-    48 <= b && b <= 57
-}
-
-// The value with one digit more. A script has no number above 65,535; one that has is read as 0.
-fn longer(value: u32, b: u8) -> u32 {
-    if value > 6553 {
-        return 0;
-    }
-    if b < 48 {
-        return 0;
-    }
-    10 * value + (b - 48) as u32
-}
-
-fn narrow(value: u32) -> u16 {
-    if value > 65535 { 0 } else { value as u16 }
-}
-
-// The number that ends here, if there is one.
-fn end_number(st: Reading, tokens: &mut [u16]) -> Reading {
-    let at = st.at;
-    if !st.some {
-        return st;
-    }
-    if at >= 64 {
-        return st;
-    }
-    put(tokens, at, narrow(st.value));
-    Reading {
-        letter: st.letter,
-        some: false,
-        value: 0,
-        at: at + 1,
-    }
-}
-
-// One byte of a line, not its first and not its end.
-fn inner_byte(st: Reading, b: u8, tokens: &mut [u16]) -> Reading {
-    if is_digit(b) {
-        return Reading {
-            letter: st.letter,
-            some: true,
-            value: longer(st.value, b),
-            at: st.at,
-        };
-    }
-    let next = end_number(st, tokens);
-    if b == b'>' {
-        return Reading {
-            letter: next.letter,
-            some: false,
-            value: 0,
-            at: EXPECTED,
-        };
-    }
-    next
-}
-
-// One byte that does not end its line.
-fn line_byte(st: Reading, b: u8, tokens: &mut [u16], notes: &mut [usize]) -> Reading {
-    let letter = st.letter;
-    if letter == 0 {
-        if b == b'=' {
-            begin_group(notes);
+// What the lines before a call say of the board.
+fn arrange(letter: u8, most: u16, board: &mut [u16], own: &mut [u16]) {
+    match letter {
+        b'f' => fresh(board, own),
+        b'g' => given(most, board, own),
+        b'z' => opened(own),
+        b's' => slot(own),
+        b'h' => {
+            let m = get(own, NUMBERS, 0);
+            put(own, WANT, 1, m);
         }
-        return Reading {
-            letter: b,
-            some: false,
-            value: 0,
-            at: 0,
-        };
+        0 | b'#' => {}
+        _ => count(own, STRANGE),
     }
+}
+
+fn command(letter: u8, most: u16, board: &mut [u16], work: &mut [u16], own: &mut [u16]) {
+    match letter {
+        b'o' => do_open(board, own),
+        b'a' | b'w' | b'p' => do_call(letter as u16, board, work, own),
+        b'c' => do_check(board, own),
+        b'b' => do_blocked(work, own),
+        _ => arrange(letter, most, board, own),
+    }
+}
+
+// The group before is told, if there is one.
+fn end_group(own: &mut [u16]) {
+    if wide_at(own, TRIED) != 0 {
+        say_tally(own, TRIED, WRONG);
+    }
+    carry(own, TRIED, ALL_TRIED);
+    carry(own, WRONG, ALL_WRONG);
+}
+
+// One line.
+fn perform(line: &[u8], board: &mut [u16], work: &mut [u16], own: &mut [u16]) {
+    count(own, CASE);
+    if line.len() == 0 {
+        return;
+    }
+    let letter = line[0];
     if letter == b'=' {
-        say(&[b]);
-        return st;
+        end_group(own);
+        say(&line[1..]);
+        return;
     }
-    if letter == b'#' {
-        return st;
-    }
-    inner_byte(st, b, tokens)
+    zero(own, NUMBERS, 64);
+    let c = numbers(line, own, NUMBERS);
+    command(letter, c, board, work, own);
 }
 
-// A line is complete.
-fn end_line(
-    st: Reading,
-    tokens: &mut [u16],
-    board: &mut [u16],
-    want: &mut [u16],
-    work: &mut [u16],
-    notes: &mut [usize],
-) {
-    count_up(notes, LINES);
-    let last = end_number(st, tokens);
-    let letter = last.letter;
-    let at = last.at;
-    command(letter, at, tokens, board, want, work, notes);
-    zero_words(tokens, 0, 64);
+pub(crate) fn run(text: &[u8], board: &mut [u16], work: &mut [u16], own: &mut [u16]) {
+    let mut at: usize = 0;
+    while at < text.len() {
+        let e = line_end(text, at);
+        if text.len() <= e {
+            return;
+        }
+        perform(&text[at..e], board, work, own);
+        at = e + 1;
+    }
 }
 
-fn one_byte(
-    st: Reading,
-    b: u8,
-    tokens: &mut [u16],
-    board: &mut [u16],
-    want: &mut [u16],
-    work: &mut [u16],
-    notes: &mut [usize],
-) -> Reading {
-    if b == 10 {
-        end_line(st, tokens, board, want, work, notes);
-        return nothing_read();
-    }
-    line_byte(st, b, tokens, notes)
-}
-
-pub(crate) fn run(
-    text: &[u8],
-    tokens: &mut [u16],
-    board: &mut [u16],
-    want: &mut [u16],
-    work: &mut [u16],
-    notes: &mut [usize],
-) {
-    let mut st = nothing_read();
-    let mut i: usize = 0;
-    while i < text.len() {
-        st = one_byte(st, text[i], tokens, board, want, work, notes);
-        i += 1;
-    }
+pub(crate) fn close(own: &mut [u16]) {
+    end_group(own);
+    say_count(b"lines read ", wide_at(own, CASE));
+    say_count(b", not understood ", wide_at(own, STRANGE));
+    say(b"\nall");
+    say_tally(own, ALL_TRIED, ALL_WRONG);
 }

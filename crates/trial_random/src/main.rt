@@ -1,21 +1,28 @@
-// Random boards against a plain breadth-first matcher. For each n several rounds; each opens a board and makes many
-// random calls, and after each call the answer, the board and the work words are held to what this program keeps by itself.
+// Random boards against a plain breadth-first matcher. For each n several boards are opened and many random calls made;
+// after each call the answer, the board and the work words are held to what this program keeps by itself.
 mod calls;
-mod draw;
+mod draws;
 mod judge;
 mod ledger;
 mod matcher;
-mod tally;
+mod plan;
+
+use ledger::ALL_TRIED;
+use ledger::ALL_WRONG;
+use ledger::SEED;
+use trial_kit::put_wide;
+use trial_kit::say;
+use trial_kit::say_tally;
 
 fn main() {
     let mut board = [0u16; 11300];
-    let mut before = [0u16; 11300];
     let mut work = [0u16; 13400];
-    let mut own = [0u16; 81280];
-    let mut notes = [0u64; 32];
-    tally::seed(&mut notes);
-    calls::small_sizes(&mut board, &mut before, &mut work, &mut own, &mut notes);
-    calls::middle_sizes(&mut board, &mut before, &mut work, &mut own, &mut notes);
-    calls::large_sizes(&mut board, &mut before, &mut work, &mut own, &mut notes);
-    tally::say_all(&notes);
+    let mut own = [0u16; 40700];
+    put_wide(&mut own, SEED, 88172645);
+    say(
+        b"n: prints, accepted, accepted with others moved, blocked, blocked by more than its list, held already, withdrawn, not held, labels lowered\n",
+    );
+    calls::sizes(&mut board, &mut work, &mut own);
+    say(b"all");
+    say_tally(&own, ALL_TRIED, ALL_WRONG);
 }

@@ -15,7 +15,7 @@ use Rattle.writing.specs.Closing.{Closes}
 use Rattle.writing.proofs.Texts.{sets-start}
 use Rattle.writing.proofs.Puts.{length-three}
 
-length-tallyLine : (t : Counts) → length (tallyLine t) ≡ threeBytes
+pub length-tallyLine : (t : Counts) → length (tallyLine t) ≡ threeBytes
 unfolding tallyLine
 length-tallyLine t = length-three byteN (t .lines) (t .accepted) (t .refused)
 

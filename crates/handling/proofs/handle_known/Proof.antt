@@ -8,7 +8,7 @@ use Rattle.answers.specs.Values.{stateOf}
 use Rattle.answers.proofs.NumberLaws.{code-some}
 use Rattle.checking.specs.Known.{knownOf}
 use Rattle.reading.specs.Reading.{kindRefusal}
-use Rattle.handling.proofs.ReadLines.{few-columns, unread-as, unread-known, read-as, read-known}
+use Rattle.handling.proofs.ReadLines.{unread-as, unread-known, read-as, read-known}
 use Rattle.handling.proofs.handle_known.Statement.{statement}
 use Rattle.handling.proofs.handle_known.Tie as tie
 
@@ -45,10 +45,7 @@ enum-told : tie.Need-enum-told
 enum-told c = search needs
 
 asked-line-requires : tie.Need-asked-line-requires
-asked-line-requires c κs =
-    let r = c .before .before .before .before .before in
-    let a = r .before .before .before .before .args in
-    few-columns (a .line .now) (r .read-line .result) (r .read-line .ensures)
+asked-line-requires c κs = search needs
 
 same-length : tie.Need-same-length
 same-length c = search needs

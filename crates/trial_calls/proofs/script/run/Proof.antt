@@ -1,37 +1,25 @@
--- `trial_calls::script::run` is safe and ends. The index is within the text, and all words' numbers stay.
-use Prim.Native.Nat.{_≤_, _-_}
-use mathlib.Core.Path.{_≡_}
 use lib.ListN.{length}
+use mathlib.Core.Path.{_≡_}
+use Prim.Native.Nat.{_≤_, _-_}
 use borrow.Author.Needs.{needs}
 use Rattle.trial_calls.proofs.script.run.Statement.{statement}
 use Rattle.trial_calls.proofs.script.run.Tie as tie
+use Rattle.trial_calls.proofs.script.run.Reads as reads
+use Rattle.trial_calls.proofs.script.run.Lts as lts
+use Rattle.trial_calls.proofs.script.perform.Reads as perform-reads
+use Rattle.trial_kit.proofs.line_end.Reads as line-end-reads
 
 abbrev Inv-loop : tie.InvT-loop
-Inv-loop text tokens₀ board₀ want₀ work₀ notes₀ st₀ i₀ tokens board want work notes st i = (i ≤ length text) × (length tokens ≡ length tokens₀) × (length board ≡ length board₀) × (length want ≡ length want₀) × (length work ≡ length work₀) × (length notes ≡ length notes₀)
+Inv-loop text board₀ work₀ own₀ at₀ board work own at = (length board ≡ length board₀) × (length work ≡ length work₀) × (length own ≡ length own₀)
 
 abbrev μ-loop : tie.MeasureT-loop
-μ-loop text tokens₀ board₀ want₀ work₀ notes₀ st₀ i₀ tokens board want work notes st i = length text - i
-
-nothing-read-requires : tie.Need-nothing-read-requires Inv-loop μ-loop
-nothing-read-requires c κs = search needs
+μ-loop text board₀ work₀ own₀ at₀ board work own at = length text - at
 
 loop-holds : tie.Need-loop-holds Inv-loop μ-loop
 loop-holds c = search needs
 
-shared-slice-read-one-byte : tie.Need-shared-slice-read-one-byte Inv-loop μ-loop
-shared-slice-read-one-byte c = search needs
-
-one-byte-requires : tie.Need-one-byte-requires Inv-loop μ-loop
-one-byte-requires c κs = search needs
-
-add-i : tie.Need-add-i Inv-loop μ-loop
-add-i c = search needs
-
-loop-less : tie.Need-loop-less Inv-loop μ-loop
-loop-less c = search needs
-
-loop-again : tie.Need-loop-again Inv-loop μ-loop
-loop-again c = search needs
+line-end-requires : tie.Need-line-end-requires Inv-loop μ-loop
+line-end-requires c κs = search needs
 
 same-length : tie.Need-same-length Inv-loop μ-loop
 same-length c = search needs
@@ -42,14 +30,41 @@ same-length-2 c = search needs
 same-length-3 : tie.Need-same-length-3 Inv-loop μ-loop
 same-length-3 c = search needs
 
+returns : tie.Need-returns Inv-loop μ-loop
+returns c = search needs
+
+sub-perform : tie.Need-sub-perform Inv-loop μ-loop
+sub-perform c = search needs
+
+part-perform-start : tie.Need-part-perform-start Inv-loop μ-loop
+part-perform-start c = search needs
+
+part-perform-end : tie.Need-part-perform-end Inv-loop μ-loop
+part-perform-end c = search needs
+
+perform-requires : tie.Need-perform-requires Inv-loop μ-loop
+perform-requires c κs = search needs
+
+add-at : tie.Need-add-at Inv-loop μ-loop
+add-at c = search needs
+
+loop-less : tie.Need-loop-less Inv-loop μ-loop
+loop-less c = search needs
+
+loop-again : tie.Need-loop-again Inv-loop μ-loop
+loop-again c = search needs
+
 same-length-4 : tie.Need-same-length-4 Inv-loop μ-loop
 same-length-4 c = search needs
 
 same-length-5 : tie.Need-same-length-5 Inv-loop μ-loop
 same-length-5 c = search needs
 
-returns : tie.Need-returns Inv-loop μ-loop
-returns c = search needs
+same-length-6 : tie.Need-same-length-6 Inv-loop μ-loop
+same-length-6 c = search needs
+
+returns-2 : tie.Need-returns-2 Inv-loop μ-loop
+returns-2 c = search needs
 
 pub run-spec : {M : Type 1} → statement M
 run-spec =
@@ -57,16 +72,20 @@ run-spec =
     (tie.spec
     Inv-loop
     μ-loop
-    nothing-read-requires
     loop-holds
-    shared-slice-read-one-byte
-    one-byte-requires
-    add-i
-    loop-less
-    loop-again
+    line-end-requires
     same-length
     same-length-2
     same-length-3
+    returns
+    sub-perform
+    part-perform-start
+    part-perform-end
+    perform-requires
+    add-at
+    loop-less
+    loop-again
     same-length-4
     same-length-5
-    returns)
+    same-length-6
+    returns-2)

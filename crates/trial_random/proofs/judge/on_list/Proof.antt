@@ -1,20 +1,24 @@
--- `trial_random::judge::on_list` is safe and ends. The index is within the list.
+use lib.ListN.{length}
+use mathlib.Core.Path.{_≡_}
 use Prim.Native.Nat.{_≤_, _-_}
 use borrow.Author.Needs.{needs}
 use Rattle.trial_random.proofs.judge.on_list.Statement.{statement}
 use Rattle.trial_random.proofs.judge.on_list.Tie as tie
+use Rattle.trial_random.proofs.judge.on_list.Reads as reads
+use Rattle.trial_random.proofs.judge.on_list.Lts as lts
+use Rattle.trial_kit.proofs.get.Reads as get-reads
 
 abbrev Inv-loop : tie.InvT-loop
-Inv-loop own k s j₀ j = j ≤ 9
+Inv-loop own at s j₀ j = j ≤ 10
 
 abbrev μ-loop : tie.MeasureT-loop
-μ-loop own k s j₀ j = 9 - j
+μ-loop own at s j₀ j = 10 - j
 
 loop-holds : tie.Need-loop-holds Inv-loop μ-loop
 loop-holds c = search needs
 
-choice-requires : tie.Need-choice-requires Inv-loop μ-loop
-choice-requires c κs = search needs
+get-requires : tie.Need-get-requires Inv-loop μ-loop
+get-requires c κs = search needs
 
 returns : tie.Need-returns Inv-loop μ-loop
 returns c = search needs
@@ -34,13 +38,4 @@ returns-2 c = search needs
 pub on-list-spec : {M : Type 1} → statement M
 on-list-spec =
     tie.close
-    (tie.spec
-    Inv-loop
-    μ-loop
-    loop-holds
-    choice-requires
-    returns
-    add-j
-    loop-less
-    loop-again
-    returns-2)
+    (tie.spec Inv-loop μ-loop loop-holds get-requires returns add-j loop-less loop-again returns-2)

@@ -1,10 +1,13 @@
--- `trial_random::matcher::augment` is safe and ends. The turns are counted, and the words' number stays.
-use Prim.Native.Nat.{_≤_, _-_}
-use mathlib.Core.Path.{_≡_}
 use lib.ListN.{length}
+use mathlib.Core.Path.{_≡_}
+use Prim.Native.Nat.{_≤_, _-_}
 use borrow.Author.Needs.{needs}
 use Rattle.trial_random.proofs.matcher.augment.Statement.{statement}
 use Rattle.trial_random.proofs.matcher.augment.Tie as tie
+use Rattle.trial_random.proofs.matcher.augment.Reads as reads
+use Rattle.trial_random.proofs.matcher.augment.Lts as lts
+use Rattle.trial_kit.proofs.get.Reads as get-reads
+use Rattle.trial_kit.proofs.put.Reads as put-reads
 
 abbrev Inv-loop : tie.InvT-loop
 Inv-loop own₀ free s₀ turns₀ own s turns = (turns ≤ 1040) × (length own ≡ length own₀)
@@ -15,8 +18,8 @@ abbrev μ-loop : tie.MeasureT-loop
 loop-holds : tie.Need-loop-holds Inv-loop μ-loop
 loop-holds c = search needs
 
-via-requires : tie.Need-via-requires Inv-loop μ-loop
-via-requires c κs = search needs
+get-requires : tie.Need-get-requires Inv-loop μ-loop
+get-requires c κs = search needs
 
 same-length : tie.Need-same-length Inv-loop μ-loop
 same-length c = search needs
@@ -24,17 +27,20 @@ same-length c = search needs
 returns : tie.Need-returns Inv-loop μ-loop
 returns c = search needs
 
-sub-seat : tie.Need-sub-seat Inv-loop μ-loop
-sub-seat c = search needs
+sub-get : tie.Need-sub-get Inv-loop μ-loop
+sub-get c = search needs
 
-seat-requires : tie.Need-seat-requires Inv-loop μ-loop
-seat-requires c κs = search needs
+get-requires-2 : tie.Need-get-requires-2 Inv-loop μ-loop
+get-requires-2 c κs = search needs
 
-sub-settle : tie.Need-sub-settle Inv-loop μ-loop
-sub-settle c = search needs
+sub-put : tie.Need-sub-put Inv-loop μ-loop
+sub-put c = search needs
 
-settle-requires : tie.Need-settle-requires Inv-loop μ-loop
-settle-requires c κs = search needs
+put-requires : tie.Need-put-requires Inv-loop μ-loop
+put-requires c κs = search needs
+
+put-requires-2 : tie.Need-put-requires-2 Inv-loop μ-loop
+put-requires-2 c κs = search needs
 
 same-length-2 : tie.Need-same-length-2 Inv-loop μ-loop
 same-length-2 c = search needs
@@ -64,13 +70,14 @@ augment-spec =
     Inv-loop
     μ-loop
     loop-holds
-    via-requires
+    get-requires
     same-length
     returns
-    sub-seat
-    seat-requires
-    sub-settle
-    settle-requires
+    sub-get
+    get-requires-2
+    sub-put
+    put-requires
+    put-requires-2
     same-length-2
     returns-2
     add-turns

@@ -1,9 +1,12 @@
--- `trial_random::matcher::reached_are` is safe and ends. The slot is at most n, and the place within the list.
-use Prim.Native.Nat.{_≤_, _-_}
 use lib.ListN.{length}
+use mathlib.Core.Path.{_≡_}
+use Prim.Native.Nat.{_≤_, _-_}
 use borrow.Author.Needs.{needs}
 use Rattle.trial_random.proofs.matcher.reached_are.Statement.{statement}
 use Rattle.trial_random.proofs.matcher.reached_are.Tie as tie
+use Rattle.trial_random.proofs.matcher.reached_are.Reads as reads
+use Rattle.trial_random.proofs.matcher.reached_are.Lts as lts
+use Rattle.trial_kit.proofs.get.Reads as get-reads
 
 abbrev Inv-loop : tie.InvT-loop
 Inv-loop own list n p₀ s₀ p s = (s ≤ n) × (p ≤ length list)
@@ -11,8 +14,8 @@ Inv-loop own list n p₀ s₀ p s = (s ≤ n) × (p ≤ length list)
 abbrev μ-loop : tie.MeasureT-loop
 μ-loop own list n p₀ s₀ p s = n - s
 
-size-requires : tie.Need-size-requires Inv-loop μ-loop
-size-requires c κs = search needs
+get-requires : tie.Need-get-requires Inv-loop μ-loop
+get-requires c κs = search needs
 
 loop-holds : tie.Need-loop-holds Inv-loop μ-loop
 loop-holds c = search needs
@@ -20,8 +23,8 @@ loop-holds c = search needs
 add-s : tie.Need-add-s Inv-loop μ-loop
 add-s c = search needs
 
-via-requires : tie.Need-via-requires Inv-loop μ-loop
-via-requires c κs = search needs
+get-requires-2 : tie.Need-get-requires-2 Inv-loop μ-loop
+get-requires-2 c κs = search needs
 
 returns : tie.Need-returns Inv-loop μ-loop
 returns c = search needs
@@ -59,10 +62,10 @@ reached-are-spec =
     (tie.spec
     Inv-loop
     μ-loop
-    size-requires
+    get-requires
     loop-holds
     add-s
-    via-requires
+    get-requires-2
     returns
     mul-if3
     shared-slice-read-if3

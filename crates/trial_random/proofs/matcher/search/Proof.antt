@@ -1,10 +1,15 @@
--- `trial_random::matcher::search` is safe and ends. The rows that were gone on from are counted, and the words' number stays.
-use Prim.Native.Nat.{_≤_, _-_}
-use mathlib.Core.Path.{_≡_}
 use lib.ListN.{length}
+use mathlib.Core.Path.{_≡_}
+use Prim.Native.Nat.{_≤_, _-_}
 use borrow.Author.Needs.{needs}
 use Rattle.trial_random.proofs.matcher.search.Statement.{statement}
 use Rattle.trial_random.proofs.matcher.search.Tie as tie
+use Rattle.trial_random.proofs.matcher.search.Reads as reads
+use Rattle.trial_random.proofs.matcher.search.Lts as lts
+use Rattle.trial_kit.proofs.get.Reads as get-reads
+use Rattle.trial_kit.proofs.put.Reads as put-reads
+use Rattle.trial_kit.proofs.zero.Reads as zero-reads
+use Rattle.trial_random.proofs.matcher.visit_list.Reads as visit-list-reads
 
 abbrev Inv-loop : tie.InvT-loop
 Inv-loop own₀ k head₀ own head = (head ≤ 1040) × (length own ≡ length own₀)
@@ -12,8 +17,8 @@ Inv-loop own₀ k head₀ own head = (head ≤ 1040) × (length own ≡ length o
 abbrev μ-loop : tie.MeasureT-loop
 μ-loop own₀ k head₀ own head = 1040 - head
 
-zero-words-requires : tie.Need-zero-words-requires Inv-loop μ-loop
-zero-words-requires c κs = search needs
+zero-requires : tie.Need-zero-requires Inv-loop μ-loop
+zero-requires c κs = search needs
 
 put-requires : tie.Need-put-requires Inv-loop μ-loop
 put-requires c κs = search needs
@@ -21,8 +26,8 @@ put-requires c κs = search needs
 put-requires-2 : tie.Need-put-requires-2 Inv-loop μ-loop
 put-requires-2 c κs = search needs
 
-enqueue-requires : tie.Need-enqueue-requires Inv-loop μ-loop
-enqueue-requires c κs = search needs
+put-requires-3 : tie.Need-put-requires-3 Inv-loop μ-loop
+put-requires-3 c κs = search needs
 
 loop-holds : tie.Need-loop-holds Inv-loop μ-loop
 loop-holds c = search needs
@@ -44,12 +49,6 @@ same-length-2 c = search needs
 
 returns-2 : tie.Need-returns-2 Inv-loop μ-loop
 returns-2 c = search needs
-
-cast-get : tie.Need-cast-get Inv-loop μ-loop
-cast-get c = search needs
-
-add-get : tie.Need-add-get Inv-loop μ-loop
-add-get c = search needs
 
 get-requires-3 : tie.Need-get-requires-3 Inv-loop μ-loop
 get-requires-3 c κs = search needs
@@ -78,10 +77,10 @@ search-spec =
     (tie.spec
     Inv-loop
     μ-loop
-    zero-words-requires
+    zero-requires
     put-requires
     put-requires-2
-    enqueue-requires
+    put-requires-3
     loop-holds
     get-requires
     same-length
@@ -89,8 +88,6 @@ search-spec =
     get-requires-2
     same-length-2
     returns-2
-    cast-get
-    add-get
     get-requires-3
     visit-list-requires
     add-head

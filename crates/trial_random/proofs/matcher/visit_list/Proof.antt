@@ -1,22 +1,29 @@
--- `trial_random::matcher::visit_list` is safe and ends. The index is within the list, and the words' number stays.
-use Prim.Native.Nat.{_≤_, _-_}
-use mathlib.Core.Path.{_≡_}
 use lib.ListN.{length}
+use mathlib.Core.Path.{_≡_}
+use Prim.Native.Nat.{_≤_, _-_}
 use borrow.Author.Needs.{needs}
 use Rattle.trial_random.proofs.matcher.visit_list.Statement.{statement}
 use Rattle.trial_random.proofs.matcher.visit_list.Tie as tie
+use Rattle.trial_random.proofs.matcher.visit_list.Reads as reads
+use Rattle.trial_random.proofs.matcher.visit_list.Lts as lts
+use Rattle.trial_kit.proofs.get.Reads as get-reads
+use Rattle.trial_random.proofs.ledger.row.Reads as row-reads
+use Rattle.trial_random.proofs.matcher.visit.Reads as visit-reads
 
 abbrev Inv-loop : tie.InvT-loop
-Inv-loop own₀ k j₀ own j = (j ≤ 9) × (length own ≡ length own₀)
+Inv-loop own₀ k j₀ own j = (j ≤ 10) × (length own ≡ length own₀)
 
 abbrev μ-loop : tie.MeasureT-loop
-μ-loop own₀ k j₀ own j = 9 - j
+μ-loop own₀ k j₀ own j = 10 - j
 
 loop-holds : tie.Need-loop-holds Inv-loop μ-loop
 loop-holds c = search needs
 
-choice-requires : tie.Need-choice-requires Inv-loop μ-loop
-choice-requires c κs = search needs
+row-requires : tie.Need-row-requires Inv-loop μ-loop
+row-requires c κs = search needs
+
+get-requires : tie.Need-get-requires Inv-loop μ-loop
+get-requires c κs = search needs
 
 visit-requires : tie.Need-visit-requires Inv-loop μ-loop
 visit-requires c κs = search needs
@@ -43,7 +50,8 @@ visit-list-spec =
     Inv-loop
     μ-loop
     loop-holds
-    choice-requires
+    row-requires
+    get-requires
     visit-requires
     add-j
     loop-less

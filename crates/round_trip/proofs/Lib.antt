@@ -1,0 +1,2 @@
+pub mod WriteReads
+pub mod ReadWrites

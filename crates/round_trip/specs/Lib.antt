@@ -1,0 +1,2 @@
+pub mod WriteRead
+pub mod ReadWrite

@@ -1,0 +1,59 @@
+use Rattle.trial_kit.proofs.Walks.{stores-step, stores-done, stores-whole}
+use Rattle.trial_kit.specs.Words.{mark as markOf}
+use Rattle.trial_kit.specs.Words.{wordAt, stores, nothing, all, alike, marked, empty}
+use lib.ListN.{length}
+use Prim.Native.Nat.{_≤_, _-_, _+_, _<_}
+use native.Mathlib.Omega.{arith}
+use mathlib.Core.Path.{_≡_, refl, sym, ap, _∙_}
+use borrow.Author.Needs.{needs}
+use Rattle.trial_kit.proofs.copy.Statement.{statement}
+use Rattle.trial_kit.proofs.copy.Tie as tie
+use Rattle.trial_kit.proofs.copy.Reads as reads
+use Rattle.trial_kit.proofs.copy.Lts as lts
+use Rattle.trial_kit.proofs.get.Reads as get-reads
+use Rattle.trial_kit.proofs.put.Reads as put-reads
+
+abbrev Inv-loop : tie.InvT-loop
+Inv-loop from f to₀ t k i₀ to i = (i ≤ k) × (length to ≡ length to₀) × (stores (wordAt from f) t (k - i) i to ≡ stores (wordAt from f) t k 0 to₀)
+
+abbrev μ-loop : tie.MeasureT-loop
+μ-loop from f to₀ t k i₀ to i = k - i
+
+loop-holds : tie.Need-loop-holds Inv-loop μ-loop
+loop-holds c = (search needs, refl, stores-whole _ _ _ _)
+
+get-requires : tie.Need-get-requires Inv-loop μ-loop
+get-requires c κs = search needs
+
+put-requires : tie.Need-put-requires Inv-loop μ-loop
+put-requires c κs = search needs
+
+add-i : tie.Need-add-i Inv-loop μ-loop
+add-i c = search needs
+
+loop-less : tie.Need-loop-less Inv-loop μ-loop
+loop-less c = search needs
+
+loop-again : tie.Need-loop-again Inv-loop μ-loop
+loop-again c = (search needs, search needs, stores-step _ _ _ _ (c .before .before .before .before .before .before .loop .to) (c .before .before .before .before .before .loop-test .taken) (c .before .before .put .ensures) (c .before .before .before .get .ensures) (c .before .before .before .before .before .before .loop .inv .2))
+
+same-length : tie.Need-same-length Inv-loop μ-loop
+same-length c = search needs
+
+returns : tie.Need-returns Inv-loop μ-loop
+returns c = stores-done _ _ _ _ (c .loop-test .left) (c .before .loop .inv .2)
+
+pub copy-spec : {M : Type 1} → statement M
+copy-spec =
+    tie.close
+    (tie.spec
+    Inv-loop
+    μ-loop
+    loop-holds
+    get-requires
+    put-requires
+    add-i
+    loop-less
+    loop-again
+    same-length
+    returns)

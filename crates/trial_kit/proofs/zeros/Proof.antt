@@ -1,0 +1,45 @@
+use Rattle.trial_kit.proofs.Walks.{all-step, all-stop, all-done, all-whole, agree, differ}
+use Rattle.trial_kit.specs.Words.{mark as markOf}
+use Rattle.trial_kit.specs.Words.{wordAt, stores, nothing, all, alike, marked, empty}
+use lib.ListN.{length}
+use Prim.Native.Nat.{_≤_, _-_, _+_, _<_}
+use native.Mathlib.Omega.{arith}
+use mathlib.Core.Path.{_≡_, refl, sym, ap, _∙_}
+use borrow.Author.Needs.{needs}
+use Rattle.trial_kit.proofs.zeros.Statement.{statement}
+use Rattle.trial_kit.proofs.zeros.Tie as tie
+use Rattle.trial_kit.proofs.zeros.Reads as reads
+use Rattle.trial_kit.proofs.zeros.Lts as lts
+use Rattle.trial_kit.proofs.get.Reads as get-reads
+
+abbrev Inv-loop : tie.InvT-loop
+Inv-loop a from to i₀ i = all (empty a) (to - i) i ≡ all (empty a) (to - from) from
+
+abbrev μ-loop : tie.MeasureT-loop
+μ-loop a from to i₀ i = to - i
+
+loop-holds : tie.Need-loop-holds Inv-loop μ-loop
+loop-holds c = refl
+
+get-requires : tie.Need-get-requires Inv-loop μ-loop
+get-requires c κs = search needs
+
+returns : tie.Need-returns Inv-loop μ-loop
+returns c = all-stop _ _ _ (c .before .before .loop-test .taken) (differ (c .before .get .ensures) refl (c .if1 .taken)) (c .before .before .before .loop .inv)
+
+add-i : tie.Need-add-i Inv-loop μ-loop
+add-i c = search needs
+
+loop-less : tie.Need-loop-less Inv-loop μ-loop
+loop-less c = search needs
+
+loop-again : tie.Need-loop-again Inv-loop μ-loop
+loop-again c = all-step _ _ _ (c .before .before .loop-test .taken) (agree (c .before .get .ensures) refl (c .if1 .left)) (c .before .before .before .loop .inv)
+
+returns-2 : tie.Need-returns-2 Inv-loop μ-loop
+returns-2 c = all-done _ _ _ (c .loop-test .left) (c .before .loop .inv)
+
+pub zeros-spec : {M : Type 1} → statement M
+zeros-spec =
+    tie.close
+    (tie.spec Inv-loop μ-loop loop-holds get-requires returns add-i loop-less loop-again returns-2)
