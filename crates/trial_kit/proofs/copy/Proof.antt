@@ -1,5 +1,5 @@
+-- `trial_kit::copy` meets its contract. The invariant: what is left to walk joins to the whole.
 use Rattle.trial_kit.proofs.Walks.{stores-step, stores-done, stores-whole}
-use Rattle.trial_kit.specs.Words.{mark as markOf}
 use Rattle.trial_kit.specs.Words.{wordAt, stores, nothing, all, alike, marked, empty}
 use lib.ListN.{length}
 use Prim.Native.Nat.{_≤_, _-_, _+_, _<_}
@@ -8,10 +8,6 @@ use mathlib.Core.Path.{_≡_, refl, sym, ap, _∙_}
 use borrow.Author.Needs.{needs}
 use Rattle.trial_kit.proofs.copy.Statement.{statement}
 use Rattle.trial_kit.proofs.copy.Tie as tie
-use Rattle.trial_kit.proofs.copy.Reads as reads
-use Rattle.trial_kit.proofs.copy.Lts as lts
-use Rattle.trial_kit.proofs.get.Reads as get-reads
-use Rattle.trial_kit.proofs.put.Reads as put-reads
 
 abbrev Inv-loop : tie.InvT-loop
 Inv-loop from f to₀ t k i₀ to i = (i ≤ k) × (length to ≡ length to₀) × (stores (wordAt from f) t (k - i) i to ≡ stores (wordAt from f) t k 0 to₀)

@@ -1,8 +1,9 @@
+-- `trial_kit::fill_marks` meets its contract. The invariant: what is left to walk joins to the whole.
+use Rattle.trial_kit.specs.Words.{mark as markOf}
 use Prim.Native.Nat.{ℕ}
 use lib.ListN.{set}
 use Rattle.trial_kit.proofs.Walks.{stores-step, stores-done, stores-whole}
 use lib.ListN.{length-set}
-use Rattle.trial_kit.specs.Words.{mark as markOf}
 use Rattle.trial_kit.specs.Words.{wordAt, stores, nothing, all, alike, marked, empty}
 use lib.ListN.{length}
 use Prim.Native.Nat.{_≤_, _-_, _+_, _<_}
@@ -11,9 +12,6 @@ use mathlib.Core.Path.{_≡_, refl, sym, ap, _∙_}
 use borrow.Author.Needs.{needs}
 use Rattle.trial_kit.proofs.fill_marks.Statement.{statement}
 use Rattle.trial_kit.proofs.fill_marks.Tie as tie
-use Rattle.trial_kit.proofs.fill_marks.Reads as reads
-use Rattle.trial_kit.proofs.fill_marks.Lts as lts
-use Rattle.trial_kit.proofs.mark.Reads as mark-reads
 
 abbrev Inv-loop : tie.InvT-loop
 Inv-loop a₀ i₀ a i = (i ≤ length a₀) × (length a ≡ length a₀) × (stores markOf 0 (length a₀ - i) i a ≡ stores markOf 0 (length a₀) 0 a₀)

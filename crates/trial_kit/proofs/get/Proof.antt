@@ -1,11 +1,10 @@
+-- `trial_kit::get` meets its contract.
 use lib.ListN.{List·getD-eq-default}
 use native.Mathlib.Omega.{arith}
 use mathlib.Core.Path.{sym}
 use borrow.Author.Needs.{needs}
 use Rattle.trial_kit.proofs.get.Statement.{statement}
 use Rattle.trial_kit.proofs.get.Tie as tie
-use Rattle.trial_kit.proofs.get.Reads as reads
-use Rattle.trial_kit.proofs.get.Lts as lts
 
 returns : tie.Need-returns
 returns c = sym (List·getD-eq-default (c .before .args .a .now) 0 (omega (arith, c .if1 .taken)))

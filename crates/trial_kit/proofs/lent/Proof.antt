@@ -1,11 +1,10 @@
+-- `trial_kit::lent` meets its contract.
 use lib.Seq.{length-take-le}
 use native.Mathlib.Omega.{arith}
 use mathlib.Core.Path.{sym}
 use borrow.Author.Needs.{needs}
 use Rattle.trial_kit.proofs.lent.Statement.{statement}
 use Rattle.trial_kit.proofs.lent.Tie as tie
-use Rattle.trial_kit.proofs.lent.Reads as reads
-use Rattle.trial_kit.proofs.lent.Lts as lts
 
 returns : tie.Need-returns
 returns c = ((omega arith, sym (length-take-le _ _ (omega arith))), omega arith)

@@ -1,5 +1,5 @@
+-- `trial_kit::marks_from` meets its contract. The invariant: what is left to walk joins to the whole.
 use Rattle.trial_kit.proofs.Walks.{all-step, all-stop, all-done, all-whole, agree, differ}
-use Rattle.trial_kit.specs.Words.{mark as markOf}
 use Rattle.trial_kit.specs.Words.{wordAt, stores, nothing, all, alike, marked, empty}
 use lib.ListN.{length}
 use Prim.Native.Nat.{_≤_, _-_, _+_, _<_}
@@ -8,9 +8,6 @@ use mathlib.Core.Path.{_≡_, refl, sym, ap, _∙_}
 use borrow.Author.Needs.{needs}
 use Rattle.trial_kit.proofs.marks_from.Statement.{statement}
 use Rattle.trial_kit.proofs.marks_from.Tie as tie
-use Rattle.trial_kit.proofs.marks_from.Reads as reads
-use Rattle.trial_kit.proofs.marks_from.Lts as lts
-use Rattle.trial_kit.proofs.mark.Reads as mark-reads
 
 abbrev Inv-loop : tie.InvT-loop
 Inv-loop a from i₀ i = all (marked a) (length a - i) i ≡ all (marked a) (length a - from) from

@@ -1,11 +1,10 @@
+-- `trial_kit::put` meets its contract.
 use lib.Seq.{set-out}
 use native.Mathlib.Omega.{arith}
 use mathlib.Core.Path.{sym}
 use borrow.Author.Needs.{needs}
 use Rattle.trial_kit.proofs.put.Statement.{statement}
 use Rattle.trial_kit.proofs.put.Tie as tie
-use Rattle.trial_kit.proofs.put.Reads as reads
-use Rattle.trial_kit.proofs.put.Lts as lts
 
 returns : tie.Need-returns
 returns c = let a = c .before .args in sym (set-out (a .a .now) _ (a .v) (omega (arith, c .if1 .taken)))

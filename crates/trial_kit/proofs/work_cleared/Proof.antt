@@ -1,13 +1,9 @@
+-- `trial_kit::work_cleared` meets its contract.
 use Rattle.trial_kit.proofs.Walks.{cleared-not, cleared-if}
 use borrow.Author.Tests.{not-false, not-true}
 use borrow.Author.Needs.{needs}
 use Rattle.trial_kit.proofs.work_cleared.Statement.{statement}
 use Rattle.trial_kit.proofs.work_cleared.Tie as tie
-use Rattle.trial_kit.proofs.work_cleared.Reads as reads
-use Rattle.trial_kit.proofs.work_cleared.Lts as lts
-use Rattle.trial_kit.proofs.marks_from.Reads as marks-from-reads
-use Rattle.trial_kit.proofs.work_size.Reads as work-size-reads
-use Rattle.trial_kit.proofs.zeros.Reads as zeros-reads
 
 work-size-requires : tie.Need-work-size-requires
 work-size-requires c κs = search needs

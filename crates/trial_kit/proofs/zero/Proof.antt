@@ -1,5 +1,5 @@
+-- `trial_kit::zero` meets its contract. The invariant: what is left to walk joins to the whole.
 use Rattle.trial_kit.proofs.Walks.{stores-step, stores-done, stores-whole}
-use Rattle.trial_kit.specs.Words.{mark as markOf}
 use Rattle.trial_kit.specs.Words.{wordAt, stores, nothing, all, alike, marked, empty}
 use lib.ListN.{length}
 use Prim.Native.Nat.{_≤_, _-_, _+_, _<_}
@@ -8,9 +8,6 @@ use mathlib.Core.Path.{_≡_, refl, sym, ap, _∙_}
 use borrow.Author.Needs.{needs}
 use Rattle.trial_kit.proofs.zero.Statement.{statement}
 use Rattle.trial_kit.proofs.zero.Tie as tie
-use Rattle.trial_kit.proofs.zero.Reads as reads
-use Rattle.trial_kit.proofs.zero.Lts as lts
-use Rattle.trial_kit.proofs.put.Reads as put-reads
 
 abbrev Inv-loop : tie.InvT-loop
 Inv-loop a₀ at k i₀ a i = (i ≤ k) × (length a ≡ length a₀) × (stores nothing at (k - i) i a ≡ stores nothing at k 0 a₀)

@@ -1,13 +1,10 @@
+-- `trial_calls::script::run` is safe and ends.
 use lib.ListN.{length}
 use mathlib.Core.Path.{_≡_}
 use Prim.Native.Nat.{_≤_, _-_}
 use borrow.Author.Needs.{needs}
 use Rattle.trial_calls.proofs.script.run.Statement.{statement}
 use Rattle.trial_calls.proofs.script.run.Tie as tie
-use Rattle.trial_calls.proofs.script.run.Reads as reads
-use Rattle.trial_calls.proofs.script.run.Lts as lts
-use Rattle.trial_calls.proofs.script.perform.Reads as perform-reads
-use Rattle.trial_kit.proofs.line_end.Reads as line-end-reads
 
 abbrev Inv-loop : tie.InvT-loop
 Inv-loop text board₀ work₀ own₀ at₀ board work own at = (length board ≡ length board₀) × (length work ≡ length work₀) × (length own ≡ length own₀)

@@ -1,15 +1,10 @@
+-- `trial_calls::script::slot` is safe and ends.
 use lib.ListN.{length}
 use mathlib.Core.Path.{_≡_}
 use Prim.Native.Nat.{_≤_, _-_}
 use borrow.Author.Needs.{needs}
 use Rattle.trial_calls.proofs.script.slot.Statement.{statement}
 use Rattle.trial_calls.proofs.script.slot.Tie as tie
-use Rattle.trial_calls.proofs.script.slot.Reads as reads
-use Rattle.trial_calls.proofs.script.slot.Lts as lts
-use Rattle.std.proofs.num.wrapping_add_usize.Reads as wrapping-add-usize-reads
-use Rattle.trial_kit.proofs.get.Reads as get-reads
-use Rattle.trial_kit.proofs.put.Reads as put-reads
-use Rattle.trial_kit.proofs.slot_word.Reads as slot-word-reads
 
 abbrev Inv-loop : tie.InvT-loop
 Inv-loop own₀ at k₀ own k = (k ≤ 11) × (length own ≡ length own₀)

@@ -1,3 +1,4 @@
+-- `trial_kit::asks::ask` meets its contract.
 use Rattle.trial_kit.proofs.Walks.{asked-accept, asked-withdraw, asked-print}
 use lib.ListN.{length}
 use Prim.Native.Nat.{_≤_, _-_, _+_, _<_}
@@ -6,13 +7,6 @@ use mathlib.Core.Path.{_≡_, refl, sym, ap, _∙_}
 use borrow.Author.Needs.{needs}
 use Rattle.trial_kit.proofs.asks.ask.Statement.{statement}
 use Rattle.trial_kit.proofs.asks.ask.Tie as tie
-use Rattle.trial_kit.proofs.asks.ask.Reads as reads
-use Rattle.trial_kit.proofs.asks.ask.Lts as lts
-use Rattle.board.proofs.accept.Reads as accept-reads
-use Rattle.board.proofs.print.Reads as print-reads
-use Rattle.board.proofs.withdraw.Reads as withdraw-reads
-use Rattle.trial_kit.proofs.asks.row_at.Reads as row-at-reads
-use Rattle.trial_kit.proofs.get.Reads as get-reads
 
 get-requires : tie.Need-get-requires
 get-requires c κs = search needs

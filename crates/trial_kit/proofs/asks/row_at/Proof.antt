@@ -1,10 +1,8 @@
+-- `trial_kit::asks::row_at` meets its contract.
 use mathlib.Core.Path.{refl}
 use borrow.Author.Needs.{needs}
 use Rattle.trial_kit.proofs.asks.row_at.Statement.{statement}
 use Rattle.trial_kit.proofs.asks.row_at.Tie as tie
-use Rattle.trial_kit.proofs.asks.row_at.Reads as reads
-use Rattle.trial_kit.proofs.asks.row_at.Lts as lts
-use Rattle.trial_kit.proofs.get.Reads as get-reads
 
 get-requires : tie.Need-get-requires
 get-requires c κs = search needs

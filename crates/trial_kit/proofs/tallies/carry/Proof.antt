@@ -1,11 +1,8 @@
+-- `trial_kit::tallies::carry` meets its contract.
 use Rattle.trial_kit.proofs.Walks.{carry-all}
 use borrow.Author.Needs.{needs}
 use Rattle.trial_kit.proofs.tallies.carry.Statement.{statement}
 use Rattle.trial_kit.proofs.tallies.carry.Tie as tie
-use Rattle.trial_kit.proofs.tallies.carry.Reads as reads
-use Rattle.trial_kit.proofs.tallies.carry.Lts as lts
-use Rattle.trial_kit.proofs.tallies.put_wide.Reads as put-wide-reads
-use Rattle.trial_kit.proofs.tallies.wide_at.Reads as wide-at-reads
 
 wide-at-requires : tie.Need-wide-at-requires
 wide-at-requires c κs = search needs

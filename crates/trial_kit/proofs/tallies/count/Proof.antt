@@ -1,11 +1,8 @@
+-- `trial_kit::tallies::count` meets its contract.
 use Rattle.trial_kit.proofs.Walks.{count-more}
 use borrow.Author.Needs.{needs}
 use Rattle.trial_kit.proofs.tallies.count.Statement.{statement}
 use Rattle.trial_kit.proofs.tallies.count.Tie as tie
-use Rattle.trial_kit.proofs.tallies.count.Reads as reads
-use Rattle.trial_kit.proofs.tallies.count.Lts as lts
-use Rattle.trial_kit.proofs.tallies.put_wide.Reads as put-wide-reads
-use Rattle.trial_kit.proofs.tallies.wide_at.Reads as wide-at-reads
 
 wide-at-requires : tie.Need-wide-at-requires
 wide-at-requires c κs = search needs

@@ -1,3 +1,4 @@
+-- `trial_kit::tallies::draw` meets its contract.
 use Prim.Native.Nat.{ℕ, _*_, _/_, _%_}
 use Rattle.trial_kit.specs.Tallies.{nextSeed}
 use Rattle.trial_kit.proofs.Walks.{seed-next, drawn-none, drawn-some}
@@ -9,10 +10,6 @@ use mathlib.Core.Path.{_≡_, refl, sym, ap, _∙_}
 use borrow.Author.Needs.{needs}
 use Rattle.trial_kit.proofs.tallies.draw.Statement.{statement}
 use Rattle.trial_kit.proofs.tallies.draw.Tie as tie
-use Rattle.trial_kit.proofs.tallies.draw.Reads as reads
-use Rattle.trial_kit.proofs.tallies.draw.Lts as lts
-use Rattle.trial_kit.proofs.tallies.put_wide.Reads as put-wide-reads
-use Rattle.trial_kit.proofs.tallies.wide_at.Reads as wide-at-reads
 
 wide-at-requires : tie.Need-wide-at-requires
 wide-at-requires c κs = search needs

@@ -1,11 +1,8 @@
+-- `trial_kit::tallies::note` meets its contract.
 use Rattle.trial_kit.proofs.Walks.{noted-good, noted-wrong}
 use borrow.Author.Needs.{needs}
 use Rattle.trial_kit.proofs.tallies.note.Statement.{statement}
 use Rattle.trial_kit.proofs.tallies.note.Tie as tie
-use Rattle.trial_kit.proofs.tallies.note.Reads as reads
-use Rattle.trial_kit.proofs.tallies.note.Lts as lts
-use Rattle.trial_kit.proofs.tallies.count.Reads as count-reads
-use Rattle.trial_kit.proofs.texts.say_wrong.Reads as say-wrong-reads
 
 count-requires : tie.Need-count-requires
 count-requires c κs = search needs

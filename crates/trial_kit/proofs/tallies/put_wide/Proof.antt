@@ -1,3 +1,4 @@
+-- `trial_kit::tallies::put_wide` meets its contract.
 use Rattle.trial_kit.proofs.Walks.{wide-put}
 use lib.ListN.{length}
 use Prim.Native.Nat.{_≤_, _-_, _+_, _<_}
@@ -6,9 +7,6 @@ use mathlib.Core.Path.{_≡_, refl, sym, ap, _∙_}
 use borrow.Author.Needs.{needs}
 use Rattle.trial_kit.proofs.tallies.put_wide.Statement.{statement}
 use Rattle.trial_kit.proofs.tallies.put_wide.Tie as tie
-use Rattle.trial_kit.proofs.tallies.put_wide.Reads as reads
-use Rattle.trial_kit.proofs.tallies.put_wide.Lts as lts
-use Rattle.trial_kit.proofs.put.Reads as put-reads
 
 cast-put : tie.Need-cast-put
 cast-put c = search needs

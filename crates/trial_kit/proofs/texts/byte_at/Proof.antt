@@ -1,10 +1,9 @@
+-- `trial_kit::texts::byte_at` meets its contract.
 use lib.ListN.{List·getD-eq-default}
 use mathlib.Core.Path.{sym}
 use borrow.Author.Needs.{needs}
 use Rattle.trial_kit.proofs.texts.byte_at.Statement.{statement}
 use Rattle.trial_kit.proofs.texts.byte_at.Tie as tie
-use Rattle.trial_kit.proofs.texts.byte_at.Reads as reads
-use Rattle.trial_kit.proofs.texts.byte_at.Lts as lts
 
 returns : tie.Need-returns
 returns c = sym (List·getD-eq-default (c .before .args .s .now) 0 (c .if1 .taken))

@@ -1,9 +1,8 @@
+-- `trial_kit::texts::is_digit` meets its contract.
 use Rattle.trial_kit.proofs.Bytes.{below-digits, from-digits}
 use borrow.Author.Needs.{needs}
 use Rattle.trial_kit.proofs.texts.is_digit.Statement.{statement}
 use Rattle.trial_kit.proofs.texts.is_digit.Tie as tie
-use Rattle.trial_kit.proofs.texts.is_digit.Reads as reads
-use Rattle.trial_kit.proofs.texts.is_digit.Lts as lts
 
 returns : tie.Need-returns
 returns c = below-digits _ (c .if1 .taken)

@@ -1,3 +1,4 @@
+-- `trial_kit::texts::line_end` meets its contract. The invariant: what is left to walk joins to the whole.
 use Rattle.trial_kit.proofs.Bytes.{feed-here, feed-step, feed-done}
 use Rattle.trial_kit.specs.Texts.{feedFrom, places, spelt}
 use lib.ListN.{length}
@@ -7,8 +8,6 @@ use mathlib.Core.Path.{_≡_, refl, sym, ap, _∙_}
 use borrow.Author.Needs.{needs}
 use Rattle.trial_kit.proofs.texts.line_end.Statement.{statement}
 use Rattle.trial_kit.proofs.texts.line_end.Tie as tie
-use Rattle.trial_kit.proofs.texts.line_end.Reads as reads
-use Rattle.trial_kit.proofs.texts.line_end.Lts as lts
 
 abbrev Inv-loop : tie.InvT-loop
 Inv-loop s from i₀ i = (from ≤ i) × (i ≤ max from (length s)) × (feedFrom s (length s - i) i ≡ feedFrom s (length s - from) from)

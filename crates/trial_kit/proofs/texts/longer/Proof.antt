@@ -1,10 +1,9 @@
+-- `trial_kit::texts::longer` meets its contract.
 use Rattle.trial_kit.proofs.Bytes.{longer-none, longer-over, longer-fits}
 use native.Mathlib.Omega.{arith}
 use borrow.Author.Needs.{needs}
 use Rattle.trial_kit.proofs.texts.longer.Statement.{statement}
 use Rattle.trial_kit.proofs.texts.longer.Tie as tie
-use Rattle.trial_kit.proofs.texts.longer.Reads as reads
-use Rattle.trial_kit.proofs.texts.longer.Lts as lts
 
 mul-x : tie.Need-mul-x
 mul-x c = search needs

@@ -1,3 +1,4 @@
+-- `trial_kit::texts::next_place` meets its contract.
 use borrow.Author.Tests.{not-false, not-true}
 use Rattle.trial_kit.proofs.Bytes.{place-out, place-expected, place-other, place-inside, place-next, place-last}
 use lib.ListN.{List·getD-eq-default}
@@ -8,10 +9,6 @@ use mathlib.Core.Path.{_≡_, refl, sym, ap, _∙_}
 use borrow.Author.Needs.{needs}
 use Rattle.trial_kit.proofs.texts.next_place.Statement.{statement}
 use Rattle.trial_kit.proofs.texts.next_place.Tie as tie
-use Rattle.trial_kit.proofs.texts.next_place.Reads as reads
-use Rattle.trial_kit.proofs.texts.next_place.Lts as lts
-use Rattle.trial_kit.proofs.texts.byte_at.Reads as byte-at-reads
-use Rattle.trial_kit.proofs.texts.is_digit.Reads as is-digit-reads
 
 returns : tie.Need-returns
 returns c = let a = c .before .before .args in place-out (a .s .now) (a .i) (a .at) (List·getD-eq-default (a .s .now) 0 (c .if1 .taken))

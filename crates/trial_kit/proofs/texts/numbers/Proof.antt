@@ -1,3 +1,4 @@
+-- `trial_kit::texts::numbers` meets its contract. The invariant: what is left to walk joins to the whole.
 use Rattle.trial_kit.proofs.Bytes.{places-step, places-done, places-whole, spelt-step, spelt-done, spelt-whole}
 use Rattle.trial_kit.specs.Texts.{feedFrom, places, spelt}
 use lib.ListN.{length}
@@ -7,10 +8,6 @@ use mathlib.Core.Path.{_≡_, refl, sym, ap, _∙_}
 use borrow.Author.Needs.{needs}
 use Rattle.trial_kit.proofs.texts.numbers.Statement.{statement}
 use Rattle.trial_kit.proofs.texts.numbers.Tie as tie
-use Rattle.trial_kit.proofs.texts.numbers.Reads as reads
-use Rattle.trial_kit.proofs.texts.numbers.Lts as lts
-use Rattle.trial_kit.proofs.texts.next_place.Reads as next-place-reads
-use Rattle.trial_kit.proofs.texts.take_byte.Reads as take-byte-reads
 
 abbrev Inv-loop : tie.InvT-loop
 Inv-loop s out₀ base at₀ i₀ out at i = (i ≤ length s) × (length out ≡ length out₀) × (places s (length s - i) i at ≡ places s (length s) 0 0) × (spelt s base (length s - i) i at out ≡ spelt s base (length s) 0 0 out₀)

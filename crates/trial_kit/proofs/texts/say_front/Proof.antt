@@ -1,12 +1,10 @@
+-- `trial_kit::texts::say_front` meets its contract.
 use lib.Seq.{length-take-le}
 use native.Mathlib.Omega.{arith}
 use mathlib.Core.Path.{sym}
 use borrow.Author.Needs.{needs}
 use Rattle.trial_kit.proofs.texts.say_front.Statement.{statement}
 use Rattle.trial_kit.proofs.texts.say_front.Tie as tie
-use Rattle.trial_kit.proofs.texts.say_front.Reads as reads
-use Rattle.trial_kit.proofs.texts.say_front.Lts as lts
-use Rattle.trial_kit.proofs.texts.say.Reads as say-reads
 
 slice-aggregate-say : tie.Need-slice-aggregate-say
 slice-aggregate-say c = sym (length-take-le _ _ (omega arith))

@@ -1,3 +1,4 @@
+-- `trial_kit::texts::take_byte` meets its contract.
 use Rattle.trial_kit.proofs.Bytes.{byte-digit, byte-other}
 use lib.ListN.{length}
 use Prim.Native.Nat.{_≤_, _-_, _+_, _<_}
@@ -6,13 +7,6 @@ use mathlib.Core.Path.{_≡_, refl, sym, ap, _∙_}
 use borrow.Author.Needs.{needs}
 use Rattle.trial_kit.proofs.texts.take_byte.Statement.{statement}
 use Rattle.trial_kit.proofs.texts.take_byte.Tie as tie
-use Rattle.trial_kit.proofs.texts.take_byte.Reads as reads
-use Rattle.trial_kit.proofs.texts.take_byte.Lts as lts
-use Rattle.trial_kit.proofs.get.Reads as get-reads
-use Rattle.trial_kit.proofs.put.Reads as put-reads
-use Rattle.trial_kit.proofs.texts.byte_at.Reads as byte-at-reads
-use Rattle.trial_kit.proofs.texts.is_digit.Reads as is-digit-reads
-use Rattle.trial_kit.proofs.texts.longer.Reads as longer-reads
 
 byte-at-requires : tie.Need-byte-at-requires
 byte-at-requires c κs = search needs

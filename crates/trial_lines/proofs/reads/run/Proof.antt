@@ -1,3 +1,4 @@
+-- `trial_lines::reads::run` is safe and ends.
 use lib.ListN.{length}
 use mathlib.Core.Path.{_≡_}
 use Prim.Native.Nat.{_≤_, _-_, _+_, _<_}
@@ -5,9 +6,6 @@ use borrow.Author.Needs.{needs}
 use Rattle.trial_lines.proofs.reads.run.Statement.{statement}
 use Rattle.trial_lines.proofs.reads.run.Tie as tie
 use Rattle.trial_lines.proofs.reads.run.Reads as reads
-use Rattle.trial_lines.proofs.reads.run.Lts as lts
-use Rattle.trial_kit.proofs.line_end.Reads as line-end-reads
-use Rattle.trial_lines.proofs.reads.judge_line.Reads as judge-line-reads
 
 abbrev Inv-loop : tie.InvT-loop
 Inv-loop text own₀ at₀ own at = (length own ≡ length own₀)

@@ -1,14 +1,10 @@
+-- `trial_lines::writes::fill_row` is safe and ends.
 use lib.ListN.{length}
 use mathlib.Core.Path.{_≡_}
 use Prim.Native.Nat.{_≤_, _-_, _+_, _<_}
 use borrow.Author.Needs.{needs}
 use Rattle.trial_lines.proofs.writes.fill_row.Statement.{statement}
 use Rattle.trial_lines.proofs.writes.fill_row.Tie as tie
-use Rattle.trial_lines.proofs.writes.fill_row.Reads as reads
-use Rattle.trial_lines.proofs.writes.fill_row.Lts as lts
-use Rattle.std.proofs.num.wrapping_add_u16.Reads as wrapping-add-u16-reads
-use Rattle.trial_kit.proofs.put.Reads as put-reads
-use Rattle.trial_kit.proofs.draw.Reads as draw-reads
 
 abbrev Inv-loop : tie.InvT-loop
 Inv-loop own₀ c start gap s₀ i₀ own s i = (i ≤ c) × (length own ≡ length own₀)

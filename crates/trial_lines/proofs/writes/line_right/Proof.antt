@@ -1,3 +1,4 @@
+-- `trial_lines::writes::line_right` is safe and ends.
 use lib.Seq.{length-take-le}
 use native.Mathlib.Omega.{arith}
 use mathlib.Core.Path.{sym}
@@ -5,13 +6,6 @@ use borrow.Author.Needs.{needs}
 use Rattle.trial_lines.proofs.writes.line_right.Statement.{statement}
 use Rattle.trial_lines.proofs.writes.line_right.Tie as tie
 use Rattle.trial_lines.proofs.writes.line_right.Reads as reads
-use Rattle.trial_lines.proofs.writes.line_right.Lts as lts
-use Rattle.std.proofs.num.wrapping_add_u16.Reads as wrapping-add-u16-reads
-use Rattle.trial_kit.proofs.get.Reads as get-reads
-use Rattle.trial_kit.proofs.byte_at.Reads as byte-at-reads
-use Rattle.trial_lines.proofs.reads.line_is.Reads as line-is-reads
-use Rattle.trial_lines.proofs.writes.rewrite.Reads as rewrite-reads
-use Rattle.trial_lines.proofs.writes.same_bytes.Reads as same-bytes-reads
 
 get-requires : tie.Need-get-requires
 get-requires c κs = search needs

@@ -1,16 +1,10 @@
+-- `trial_lines::writes::refused` is safe and ends.
 use lib.Seq.{length-take-le}
 use native.Mathlib.Omega.{arith}
 use mathlib.Core.Path.{sym}
 use borrow.Author.Needs.{needs}
 use Rattle.trial_lines.proofs.writes.refused.Statement.{statement}
 use Rattle.trial_lines.proofs.writes.refused.Tie as tie
-use Rattle.trial_lines.proofs.writes.refused.Reads as reads
-use Rattle.trial_lines.proofs.writes.refused.Lts as lts
-use Rattle.trial_kit.proofs.row_at.Reads as row-at-reads
-use Rattle.trial_kit.proofs.get.Reads as get-reads
-use Rattle.trial_lines.proofs.writes.same_bytes.Reads as same-bytes-reads
-use Rattle.trial_lines.proofs.writes.wrote_number.Reads as wrote-number-reads
-use Rattle.writing.proofs.write_order.Reads as write-order-reads
 
 slice-aggregate-part : tie.Need-slice-aggregate-part
 slice-aggregate-part c = search needs

@@ -1,12 +1,10 @@
+-- `trial_lines::writes::run` is safe and ends.
 use lib.ListN.{length}
 use mathlib.Core.Path.{_≡_}
 use Prim.Native.Nat.{_≤_, _-_, _+_, _<_}
 use borrow.Author.Needs.{needs}
 use Rattle.trial_lines.proofs.writes.run.Statement.{statement}
 use Rattle.trial_lines.proofs.writes.run.Tie as tie
-use Rattle.trial_lines.proofs.writes.run.Reads as reads
-use Rattle.trial_lines.proofs.writes.run.Lts as lts
-use Rattle.trial_lines.proofs.writes.one_order.Reads as one-order-reads
 
 abbrev Inv-loop : tie.InvT-loop
 Inv-loop own₀ t₀ own t = (t ≤ 800) × (length own ≡ length own₀)

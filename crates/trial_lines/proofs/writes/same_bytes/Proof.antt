@@ -1,12 +1,10 @@
+-- `trial_lines::writes::same_bytes` is safe and ends.
 use lib.ListN.{length}
 use mathlib.Core.Path.{_≡_}
 use Prim.Native.Nat.{_≤_, _-_, _+_, _<_}
 use borrow.Author.Needs.{needs}
 use Rattle.trial_lines.proofs.writes.same_bytes.Statement.{statement}
 use Rattle.trial_lines.proofs.writes.same_bytes.Tie as tie
-use Rattle.trial_lines.proofs.writes.same_bytes.Reads as reads
-use Rattle.trial_lines.proofs.writes.same_bytes.Lts as lts
-use Rattle.trial_kit.proofs.byte_at.Reads as byte-at-reads
 
 abbrev Inv-loop : tie.InvT-loop
 Inv-loop a b i₀ i = i ≤ 64

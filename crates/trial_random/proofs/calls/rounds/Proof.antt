@@ -1,13 +1,10 @@
+-- `trial_random::calls::rounds` is safe and ends.
 use lib.ListN.{length}
 use mathlib.Core.Path.{_≡_}
 use Prim.Native.Nat.{_≤_, _-_}
 use borrow.Author.Needs.{needs}
 use Rattle.trial_random.proofs.calls.rounds.Statement.{statement}
 use Rattle.trial_random.proofs.calls.rounds.Tie as tie
-use Rattle.trial_random.proofs.calls.rounds.Reads as reads
-use Rattle.trial_random.proofs.calls.rounds.Lts as lts
-use Rattle.trial_random.proofs.calls.start.Reads as start-reads
-use Rattle.trial_random.proofs.calls.turn.Reads as turn-reads
 
 abbrev Inv-loop : tie.InvT-loop
 Inv-loop n board₀ work₀ own₀ t₀ board work own t = (t ≤ 7000) × (length board ≡ length board₀) × (length work ≡ length work₀) × (length own ≡ length own₀)

@@ -1,16 +1,10 @@
+-- `trial_random::calls::say_size` is safe and ends.
 use lib.ListN.{length}
 use mathlib.Core.Path.{_≡_}
 use Prim.Native.Nat.{_≤_, _-_}
 use borrow.Author.Needs.{needs}
 use Rattle.trial_random.proofs.calls.say_size.Statement.{statement}
 use Rattle.trial_random.proofs.calls.say_size.Tie as tie
-use Rattle.trial_random.proofs.calls.say_size.Reads as reads
-use Rattle.trial_random.proofs.calls.say_size.Lts as lts
-use Rattle.trial_kit.proofs.carry.Reads as carry-reads
-use Rattle.trial_kit.proofs.wide_at.Reads as wide-at-reads
-use Rattle.trial_kit.proofs.say_count.Reads as say-count-reads
-use Rattle.trial_kit.proofs.say_tally.Reads as say-tally-reads
-use Rattle.trial_kit.proofs.zero.Reads as zero-reads
 
 abbrev Inv-loop : tie.InvT-loop
 Inv-loop own n i₀ t5 i = 0 ≤ i

@@ -1,12 +1,10 @@
+-- `trial_random::calls::sizes` is safe and ends.
 use lib.ListN.{length}
 use mathlib.Core.Path.{_≡_}
 use Prim.Native.Nat.{_≤_, _-_}
 use borrow.Author.Needs.{needs}
 use Rattle.trial_random.proofs.calls.sizes.Statement.{statement}
 use Rattle.trial_random.proofs.calls.sizes.Tie as tie
-use Rattle.trial_random.proofs.calls.sizes.Reads as reads
-use Rattle.trial_random.proofs.calls.sizes.Lts as lts
-use Rattle.trial_random.proofs.calls.one_size.Reads as one-size-reads
 
 abbrev Inv-loop : tie.InvT-loop
 Inv-loop board₀ work₀ own₀ all i₀ board work own i = (i ≤ 9) × (length board ≡ length board₀) × (length work ≡ length work₀) × (length own ≡ length own₀)

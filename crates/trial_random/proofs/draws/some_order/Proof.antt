@@ -1,15 +1,10 @@
+-- `trial_random::draws::some_order` is safe and ends.
 use lib.ListN.{length}
 use mathlib.Core.Path.{_≡_}
 use Prim.Native.Nat.{_≤_, _-_}
 use borrow.Author.Needs.{needs}
 use Rattle.trial_random.proofs.draws.some_order.Statement.{statement}
 use Rattle.trial_random.proofs.draws.some_order.Tie as tie
-use Rattle.trial_random.proofs.draws.some_order.Reads as reads
-use Rattle.trial_random.proofs.draws.some_order.Lts as lts
-use Rattle.trial_kit.proofs.get.Reads as get-reads
-use Rattle.trial_kit.proofs.draw.Reads as draw-reads
-use Rattle.trial_random.proofs.draws.after.Reads as after-reads
-use Rattle.trial_random.proofs.draws.held.Reads as held-reads
 
 abbrev Inv-loop : tie.InvT-loop
 Inv-loop own wanted all k₀ turns₀ k turns = turns ≤ all

@@ -1,14 +1,10 @@
+-- `trial_random::draws::spread` is safe and ends.
 use lib.ListN.{length}
 use mathlib.Core.Path.{_≡_}
 use Prim.Native.Nat.{_≤_, _-_}
 use borrow.Author.Needs.{needs}
 use Rattle.trial_random.proofs.draws.spread.Statement.{statement}
 use Rattle.trial_random.proofs.draws.spread.Tie as tie
-use Rattle.trial_random.proofs.draws.spread.Reads as reads
-use Rattle.trial_random.proofs.draws.spread.Lts as lts
-use Rattle.std.proofs.num.wrapping_add_u16.Reads as wrapping-add-u16-reads
-use Rattle.trial_kit.proofs.put.Reads as put-reads
-use Rattle.trial_kit.proofs.draw.Reads as draw-reads
 
 abbrev Inv-loop : tie.InvT-loop
 Inv-loop own₀ at start w gap c₀ s₀ left₀ own c s left = (c ≤ 8) × (length own ≡ length own₀)

@@ -1,12 +1,10 @@
+-- `trial_random::judge::on_list` is safe and ends.
 use lib.ListN.{length}
 use mathlib.Core.Path.{_≡_}
 use Prim.Native.Nat.{_≤_, _-_}
 use borrow.Author.Needs.{needs}
 use Rattle.trial_random.proofs.judge.on_list.Statement.{statement}
 use Rattle.trial_random.proofs.judge.on_list.Tie as tie
-use Rattle.trial_random.proofs.judge.on_list.Reads as reads
-use Rattle.trial_random.proofs.judge.on_list.Lts as lts
-use Rattle.trial_kit.proofs.get.Reads as get-reads
 
 abbrev Inv-loop : tie.InvT-loop
 Inv-loop own at s j₀ j = j ≤ 10

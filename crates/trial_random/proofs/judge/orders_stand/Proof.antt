@@ -1,14 +1,10 @@
+-- `trial_random::judge::orders_stand` is safe and ends.
 use lib.ListN.{length}
 use mathlib.Core.Path.{_≡_}
 use Prim.Native.Nat.{_≤_, _-_}
 use borrow.Author.Needs.{needs}
 use Rattle.trial_random.proofs.judge.orders_stand.Statement.{statement}
 use Rattle.trial_random.proofs.judge.orders_stand.Tie as tie
-use Rattle.trial_random.proofs.judge.orders_stand.Reads as reads
-use Rattle.trial_random.proofs.judge.orders_stand.Lts as lts
-use Rattle.trial_kit.proofs.get.Reads as get-reads
-use Rattle.trial_kit.proofs.slot_word.Reads as slot-word-reads
-use Rattle.trial_random.proofs.judge.order_right.Reads as order-right-reads
 
 abbrev Inv-loop : tie.InvT-loop
 Inv-loop own₀ board n m₀ s₀ own m s = (s ≤ n) × (m ≤ s) × (length own ≡ length own₀)

@@ -1,13 +1,10 @@
+-- `trial_random::matcher::augment` is safe and ends.
 use lib.ListN.{length}
 use mathlib.Core.Path.{_≡_}
 use Prim.Native.Nat.{_≤_, _-_}
 use borrow.Author.Needs.{needs}
 use Rattle.trial_random.proofs.matcher.augment.Statement.{statement}
 use Rattle.trial_random.proofs.matcher.augment.Tie as tie
-use Rattle.trial_random.proofs.matcher.augment.Reads as reads
-use Rattle.trial_random.proofs.matcher.augment.Lts as lts
-use Rattle.trial_kit.proofs.get.Reads as get-reads
-use Rattle.trial_kit.proofs.put.Reads as put-reads
 
 abbrev Inv-loop : tie.InvT-loop
 Inv-loop own₀ free s₀ turns₀ own s turns = (turns ≤ 1040) × (length own ≡ length own₀)

@@ -1,12 +1,10 @@
+-- `trial_random::matcher::reached_are` is safe and ends.
 use lib.ListN.{length}
 use mathlib.Core.Path.{_≡_}
 use Prim.Native.Nat.{_≤_, _-_}
 use borrow.Author.Needs.{needs}
 use Rattle.trial_random.proofs.matcher.reached_are.Statement.{statement}
 use Rattle.trial_random.proofs.matcher.reached_are.Tie as tie
-use Rattle.trial_random.proofs.matcher.reached_are.Reads as reads
-use Rattle.trial_random.proofs.matcher.reached_are.Lts as lts
-use Rattle.trial_kit.proofs.get.Reads as get-reads
 
 abbrev Inv-loop : tie.InvT-loop
 Inv-loop own list n p₀ s₀ p s = (s ≤ n) × (p ≤ length list)

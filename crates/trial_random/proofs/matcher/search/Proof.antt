@@ -1,15 +1,10 @@
+-- `trial_random::matcher::search` is safe and ends.
 use lib.ListN.{length}
 use mathlib.Core.Path.{_≡_}
 use Prim.Native.Nat.{_≤_, _-_}
 use borrow.Author.Needs.{needs}
 use Rattle.trial_random.proofs.matcher.search.Statement.{statement}
 use Rattle.trial_random.proofs.matcher.search.Tie as tie
-use Rattle.trial_random.proofs.matcher.search.Reads as reads
-use Rattle.trial_random.proofs.matcher.search.Lts as lts
-use Rattle.trial_kit.proofs.get.Reads as get-reads
-use Rattle.trial_kit.proofs.put.Reads as put-reads
-use Rattle.trial_kit.proofs.zero.Reads as zero-reads
-use Rattle.trial_random.proofs.matcher.visit_list.Reads as visit-list-reads
 
 abbrev Inv-loop : tie.InvT-loop
 Inv-loop own₀ k head₀ own head = (head ≤ 1040) × (length own ≡ length own₀)

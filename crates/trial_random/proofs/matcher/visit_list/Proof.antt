@@ -1,14 +1,10 @@
+-- `trial_random::matcher::visit_list` is safe and ends.
 use lib.ListN.{length}
 use mathlib.Core.Path.{_≡_}
 use Prim.Native.Nat.{_≤_, _-_}
 use borrow.Author.Needs.{needs}
 use Rattle.trial_random.proofs.matcher.visit_list.Statement.{statement}
 use Rattle.trial_random.proofs.matcher.visit_list.Tie as tie
-use Rattle.trial_random.proofs.matcher.visit_list.Reads as reads
-use Rattle.trial_random.proofs.matcher.visit_list.Lts as lts
-use Rattle.trial_kit.proofs.get.Reads as get-reads
-use Rattle.trial_random.proofs.ledger.row.Reads as row-reads
-use Rattle.trial_random.proofs.matcher.visit.Reads as visit-reads
 
 abbrev Inv-loop : tie.InvT-loop
 Inv-loop own₀ k j₀ own j = (j ≤ 10) × (length own ≡ length own₀)

@@ -1,14 +1,10 @@
+-- `trial_random::plan::lower` is safe and ends.
 use lib.ListN.{length}
 use mathlib.Core.Path.{_≡_}
 use Prim.Native.Nat.{_≤_, _-_}
 use borrow.Author.Needs.{needs}
 use Rattle.trial_random.proofs.plan.lower.Statement.{statement}
 use Rattle.trial_random.proofs.plan.lower.Tie as tie
-use Rattle.trial_random.proofs.plan.lower.Reads as reads
-use Rattle.trial_random.proofs.plan.lower.Lts as lts
-use Rattle.std.proofs.num.wrapping_add_usize.Reads as wrapping-add-usize-reads
-use Rattle.trial_kit.proofs.slot_word.Reads as slot-word-reads
-use Rattle.trial_random.proofs.plan.lower_slot.Reads as lower-slot-reads
 
 abbrev Inv-loop : tie.InvT-loop
 Inv-loop a₀ at n most v s₀ a s = (s ≤ n) × (length a ≡ length a₀)
