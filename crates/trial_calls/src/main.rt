@@ -11,13 +11,17 @@
 //   print -> R C
 //   check -> 1                whether the board passes the check
 //   blocked S -> L            how long the list is that the first S work words make
-//   =NAME                     ends a group and begins the next
+//   =NAME                     ends a group: its name and how often it was right are printed
 //   #                         a remark
 // Lines that change the expected board stand before the call that changes the board.
 mod bench;
 mod script;
 
+use trial_kit::ALL_TRIED;
+use trial_kit::ALL_WRONG;
 use trial_kit::read_all;
+use trial_kit::say;
+use trial_kit::say_tally;
 
 fn main() {
     let mut text = [0u8; 65536];
@@ -26,5 +30,6 @@ fn main() {
     let mut own = [0u16; 11400];
     let n = read_all(&mut text);
     script::run(&text[..n], &mut board, &mut work, &mut own);
-    script::close(&mut own);
+    say(b"all");
+    say_tally(&own, ALL_TRIED, ALL_WRONG);
 }

@@ -1,30 +1,23 @@
 // The script's lines.
-use crate::bench::ALL_TRIED;
-use crate::bench::ALL_WRONG;
-use crate::bench::CASE;
 use crate::bench::LENT;
 use crate::bench::NUMBERS;
-use crate::bench::STRANGE;
-use crate::bench::TRIED;
 use crate::bench::WANT;
-use crate::bench::WRONG;
 use crate::bench::do_blocked;
 use crate::bench::do_call;
 use crate::bench::do_check;
 use crate::bench::do_open;
-use trial_kit::carry;
+use trial_kit::CASE;
 use trial_kit::copy;
 use trial_kit::count;
 use trial_kit::fill_marks;
 use trial_kit::get;
 use trial_kit::line_end;
+use trial_kit::note;
 use trial_kit::numbers;
 use trial_kit::put;
 use trial_kit::say;
-use trial_kit::say_count;
-use trial_kit::say_tally;
 use trial_kit::slot_word;
-use trial_kit::wide_at;
+use trial_kit::tell;
 use trial_kit::zero;
 
 // All words get their marks, in the expected board too.
@@ -66,7 +59,7 @@ fn slot(own: &mut [u16]) {
     }
 }
 
-// What the lines before a call say of the board.
+// What the lines before a call say of the board. A line that is not understood is wrong.
 fn arrange(letter: u8, most: u16, board: &mut [u16], own: &mut [u16]) {
     match letter {
         b'f' => fresh(board, own),
@@ -78,7 +71,7 @@ fn arrange(letter: u8, most: u16, board: &mut [u16], own: &mut [u16]) {
             put(own, WANT, 1, m);
         }
         0 | b'#' => {}
-        _ => count(own, STRANGE),
+        _ => note(own, b'?', false),
     }
 }
 
@@ -92,15 +85,6 @@ fn command(letter: u8, most: u16, board: &mut [u16], work: &mut [u16], own: &mut
     }
 }
 
-// The group before is told, if there is one.
-fn end_group(own: &mut [u16]) {
-    if wide_at(own, TRIED) != 0 {
-        say_tally(own, TRIED, WRONG);
-    }
-    carry(own, TRIED, ALL_TRIED);
-    carry(own, WRONG, ALL_WRONG);
-}
-
 // One line.
 fn perform(line: &[u8], board: &mut [u16], work: &mut [u16], own: &mut [u16]) {
     count(own, CASE);
@@ -109,8 +93,8 @@ fn perform(line: &[u8], board: &mut [u16], work: &mut [u16], own: &mut [u16]) {
     }
     let letter = line[0];
     if letter == b'=' {
-        end_group(own);
         say(&line[1..]);
+        tell(own);
         return;
     }
     zero(own, NUMBERS, 64);
@@ -128,12 +112,4 @@ pub(crate) fn run(text: &[u8], board: &mut [u16], work: &mut [u16], own: &mut [u
         perform(&text[at..e], board, work, own);
         at = e + 1;
     }
-}
-
-pub(crate) fn close(own: &mut [u16]) {
-    end_group(own);
-    say_count(b"lines read ", wide_at(own, CASE));
-    say_count(b", not understood ", wide_at(own, STRANGE));
-    say(b"\nall");
-    say_tally(own, ALL_TRIED, ALL_WRONG);
 }

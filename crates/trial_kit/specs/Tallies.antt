@@ -22,6 +22,14 @@ noted good at w = cond good (counted w at) (counted (counted w at) (at + 2))
 abbrev pub carried : List ℕ → ℕ → ℕ → List ℕ
 carried w from to = putWide (putWide w to (wide w to + wide w from)) from 0
 
+-- a group's comparisons, tried and wrong, are added to those of all groups
+abbrev pub told : List ℕ → List ℕ
+told w = carried (carried w 0 6) 2 8
+
+-- where the seed stands
+abbrev pub seedAt : ℕ
+seedAt = 10
+
 -- the seed after this one
 abbrev pub nextSeed : ℕ → ℕ
 nextSeed x = (x * 1664525 + 1013904223) % 4294967296

@@ -1,11 +1,10 @@
-// Calls by their letter, and answers as numbers.
+// Calls by their letter.
 ghost use mathlib.Core.Path.{_≡_};
-ghost use Rattle.answers.specs.Numbers.{code, refusalOf, countOf, said};
+ghost use Rattle.answers.specs.Numbers.{said};
 ghost use Rattle.trial_kit.specs.Words.{rowAt};
 ghost use Rattle.trial_kit.specs.Asks.{asked};
 use crate::get;
 use board::Answer;
-use board::Refusal;
 use board::accept;
 use board::print;
 use board::withdraw;
@@ -16,49 +15,6 @@ pub const ACCEPT: u16 = 97;
 pub const WITHDRAW: u16 = 119;
 
 pub const PRINT: u16 = 112;
-
-// The table of document 01 once more: a trial does not ask the library what to expect of it.
-pub fn refusal_number(r: Refusal) -> u16
-    ensures { λ n. ⌜ n ≡ code r ⌝ }
-{
-    match r {
-        Refusal::Malformed => 1,
-        Refusal::TooLarge => 2,
-        Refusal::BadSize => 3,
-        Refusal::Short => 4,
-        Refusal::Unsound => 5,
-        Refusal::LittleWork => 6,
-        Refusal::NumberZero => 7,
-        Refusal::BadCount => 8,
-        Refusal::OffBoard => 9,
-        Refusal::NotRising => 10,
-        Refusal::HeldAlready => 11,
-        Refusal::NotHeld => 13,
-    }
-}
-
-// The answer's refusal, or 0.
-pub fn answer_number(a: Answer) -> u16
-    ensures { λ n. ⌜ n ≡ refusalOf a ⌝ }
-{
-    match a {
-        Answer::Accepted(_) => 0,
-        Answer::Refused(r) => refusal_number(r),
-        Answer::Blocked(_) => 12,
-        Answer::Undecided => 65535,
-    }
-}
-
-pub fn answer_count(a: Answer) -> u64
-    ensures { λ n. ⌜ n ≡ countOf a ⌝ }
-{
-    match a {
-        Answer::Accepted(moves) => moves,
-        Answer::Refused(_) => 0,
-        Answer::Blocked(s) => s as u64,
-        Answer::Undecided => 0,
-    }
-}
 
 // The row of an order whose number and count stand behind `at`.
 pub fn row_at(a: &[u16], at: usize) -> [u16; 8]

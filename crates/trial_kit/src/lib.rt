@@ -1,6 +1,6 @@
 // What the trial programs share: words that can be read and written at any index, a pattern in words that must stay,
-// answers as numbers, calls by their letter, tallies, what is printed, draws, and standard input in lines.
-// Nothing here is taken from the library under test but its calls and the types of its answers.
+// calls by their letter, tallies, what is printed, draws, and standard input in lines.
+// Nothing here is taken from the library under test but its calls.
 mod asks;
 mod tallies;
 mod texts;
@@ -8,16 +8,17 @@ mod texts;
 pub use asks::ACCEPT;
 pub use asks::PRINT;
 pub use asks::WITHDRAW;
-pub use asks::answer_count;
-pub use asks::answer_number;
 pub use asks::ask;
-pub use asks::refusal_number;
 pub use asks::row_at;
-pub use tallies::carry;
+pub use tallies::ALL_TRIED;
+pub use tallies::ALL_WRONG;
+pub use tallies::CASE;
+pub use tallies::SEED;
 pub use tallies::count;
 pub use tallies::draw;
 pub use tallies::note;
 pub use tallies::put_wide;
+pub use tallies::tell;
 pub use tallies::wide_at;
 pub use texts::byte_at;
 pub use texts::line_end;

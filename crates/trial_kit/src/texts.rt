@@ -7,12 +7,10 @@ ghost use Rattle.trial_kit.specs.Texts.{lineEnd, isDigit, nextPlace, aft
 ghost use Rattle.trial_kit.specs.Texts.{longer as longerBy};
 use crate::get;
 use crate::put;
+use crate::tallies::CASE;
 use crate::tallies::wide_at;
 use libc::STDIN_FILENO;
 use libc::STDOUT_FILENO;
-
-// Where the case at hand is counted.
-const CASE: usize = 4;
 
 // Where a line's numbers go once it says `>`.
 const EXPECTED: u16 = 32;

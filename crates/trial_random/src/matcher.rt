@@ -1,95 +1,66 @@
-// A plain breadth-first matcher over the ledger: from the order that is tried to the orders that have the slots of its
-// list, to theirs, and so on.
-use crate::ledger::FREE;
-use crate::ledger::OWNERS;
-use crate::ledger::QUEUE;
-use crate::ledger::SEATS;
-use crate::ledger::SIZE;
-use crate::ledger::TAIL;
-use crate::ledger::VIA;
-use crate::ledger::row;
+// A plain breadth-first matcher over the board as it stands before the call: from the order that is tried to those that have
+// the slots of its list, to the slots of theirs, and so on. Of labels it knows nothing.
+use crate::prints::ORDER;
+use crate::prints::QUEUE;
+use crate::prints::REACHED;
 use trial_kit::get;
 use trial_kit::put;
+use trial_kit::row_at;
+use trial_kit::slot_word;
 use trial_kit::zero;
 
-// Slot s is on the list of order k, where it is not 0.
-fn visit(own: &mut [u16], k: u16, s: u16) {
-    if s == 0 {
-        return;
-    }
-    if get(own, VIA, s) != 0 {
-        return;
-    }
-    put(own, VIA, s, std::num::wrapping_add_u16(k, 1));
-    let o = get(own, OWNERS, s);
-    if o == 0 {
-        put(own, FREE, 0, s);
-        return;
-    }
-    let tail = get(own, TAIL, 0);
-    put(own, QUEUE, tail, o - 1);
-    put(own, TAIL, 0, std::num::wrapping_add_u16(tail, 1));
-}
+// More slots than a board has.
+const MANY: u16 = 1040;
 
-fn visit_list(own: &mut [u16], k: u16) {
-    let mut j: u16 = 2;
-    while j < 10 {
-        let s = get(own, row(k), j);
-        visit(own, k, s);
+// The slots of a list that were not reached before go to the end of the queue.
+fn visit(own: &mut [u16], row: [u16; 8], tail: u16) -> u16 {
+    let mut end = tail;
+    let mut j: usize = 0;
+    while j < 8 {
+        let s = row[j];
         j += 1;
+        if get(own, REACHED, s) == 0 {
+            put(own, REACHED, s, 1);
+            put(own, QUEUE, end, s);
+            end = std::num::wrapping_add_u16(end, 1);
+        }
     }
+    end
 }
 
-// A free slot that order k reaches, or 0 once there is nothing more to reach.
-pub(crate) fn search(own: &mut [u16], k: u16) -> u16 {
-    zero(own, VIA, 1100);
-    put(own, FREE, 0, 0);
-    put(own, TAIL, 0, 1);
-    put(own, QUEUE, 0, k);
+// The slots of the order's list are reached, and no others. What a row has behind its list is 0, and counts as reached.
+fn visit_first(own: &mut [u16]) -> u16 {
+    zero(own, REACHED, MANY);
+    put(own, REACHED, 0, 1);
+    let row = row_at(own, ORDER);
+    visit(own, row, 0)
+}
+
+// A free slot that the order reaches, or 0 once there is nothing more to reach.
+pub(crate) fn search(own: &mut [u16], board: &[u16]) -> u16 {
+    let mut tail = visit_first(own);
     let mut head: u16 = 0;
-    while head < 1040 {
-        let free = get(own, FREE, 0);
-        if free != 0 {
-            return free;
-        }
-        if get(own, TAIL, 0) <= head {
+    while head < MANY {
+        if tail <= head {
             return 0;
         }
-        let x = get(own, QUEUE, head);
-        visit_list(own, x);
+        let s = get(own, QUEUE, head);
+        if get(board, slot_word(s, 0), 0) == 0 {
+            return s;
+        }
+        tail = visit(own, row_at(board, slot_word(s, 1)), tail);
         head += 1;
     }
     0
 }
 
-// Each order on the way back from slot `free` takes the slot that was reached from it.
-pub(crate) fn augment(own: &mut [u16], free: u16) {
-    let mut s = free;
-    let mut turns: u16 = 0;
-    while turns < 1040 {
-        let r = get(own, VIA, s);
-        if r == 0 {
-            return;
-        }
-        let old = get(own, SEATS, r - 1);
-        put(own, SEATS, r - 1, s);
-        put(own, OWNERS, s, r);
-        if old == 0 {
-            return;
-        }
-        s = old;
-        turns += 1;
-    }
-}
-
-// The slots that the last search reached, rising, are the list.
-pub(crate) fn reached_are(own: &[u16], list: &[u16]) -> bool {
-    let n = get(own, SIZE, 0);
+// The slots up to n that the last search reached, rising, are the list.
+pub(crate) fn reached_are(own: &[u16], n: u16, list: &[u16]) -> bool {
     let mut p: usize = 0;
     let mut s: u16 = 0;
     while s < n {
         s += 1;
-        if get(own, VIA, s) != 0 {
+        if get(own, REACHED, s) != 0 {
             if p >= list.len() {
                 return false;
             }

@@ -1,6 +1,6 @@
 -- `trial_kit::tallies::draw` meets its contract.
 use Prim.Native.Nat.{ℕ, _*_, _/_, _%_}
-use Rattle.trial_kit.specs.Tallies.{nextSeed}
+use Rattle.trial_kit.specs.Tallies.{nextSeed, seedAt}
 use Rattle.trial_kit.proofs.Walks.{seed-next, drawn-none, drawn-some}
 use native.Mathlib.Nat.{mod-lt}
 use lib.ListN.{length}
@@ -27,7 +27,7 @@ same-length : tie.Need-same-length
 same-length c = search needs
 
 returns : tie.Need-returns
-returns c = let a = c .before .before .before .before .before .before .before .before .args in (drawn-none _ _ (c .if1 .taken), seed-next (a .a .now) (a .at) (c .before .before .before .before .before .wide-at .ensures .0) (c .before .before .before .put-wide .ensures), search needs)
+returns c = let a = c .before .before .before .before .before .before .before .before .args in (drawn-none _ _ (c .if1 .taken), seed-next (a .a .now) seedAt (c .before .before .before .before .before .wide-at .ensures .0) (c .before .before .before .put-wide .ensures), search needs)
 
 rem-result : tie.Need-rem-result
 rem-result c = search needs
@@ -39,7 +39,7 @@ same-length-2 : tie.Need-same-length-2
 same-length-2 c = search needs
 
 returns-2 : tie.Need-returns-2
-returns-2 c = let a = c .before .before .before .before .before .before .before .before .args in (ap (λ (y : ℕ). nextSeed y / 65536 % (a .k)) (c .before .before .before .before .before .wide-at .ensures .0) ∙ drawn-some _ _ (c .if1 .left), seed-next (a .a .now) (a .at) (c .before .before .before .before .before .wide-at .ensures .0) (c .before .before .before .put-wide .ensures), omega (arith, mod-lt (((c .before .before .before .before .before .wide-at .result) * 1664525 + 1013904223) % 4294967296 / 65536) {m = c .before .before .before .before .before .before .before .before .args .k} (omega arith)))
+returns-2 c = let a = c .before .before .before .before .before .before .before .before .args in (ap (λ (y : ℕ). nextSeed y / 65536 % (a .k)) (c .before .before .before .before .before .wide-at .ensures .0) ∙ drawn-some _ _ (c .if1 .left), seed-next (a .a .now) seedAt (c .before .before .before .before .before .wide-at .ensures .0) (c .before .before .before .put-wide .ensures), omega (arith, mod-lt (((c .before .before .before .before .before .wide-at .result) * 1664525 + 1013904223) % 4294967296 / 65536) {m = c .before .before .before .before .before .before .before .before .args .k} (omega arith)))
 
 pub draw-spec : {M : Type 1} → statement M
 draw-spec =

@@ -7,13 +7,10 @@ use Rattle.trial_random.proofs.matcher.reached_are.Statement.{statement
 use Rattle.trial_random.proofs.matcher.reached_are.Tie as tie
 
 abbrev Inv-loop : tie.InvT-loop
-Inv-loop own list n p₀ s₀ p s = (s ≤ n) × (p ≤ length list)
+Inv-loop own n list p₀ s₀ p s = (s ≤ n) × (p ≤ length list)
 
 abbrev μ-loop : tie.MeasureT-loop
-μ-loop own list n p₀ s₀ p s = n - s
-
-get-requires : tie.Need-get-requires Inv-loop μ-loop
-get-requires c κs = search needs
+μ-loop own n list p₀ s₀ p s = n - s
 
 loop-holds : tie.Need-loop-holds Inv-loop μ-loop
 loop-holds c = search needs
@@ -21,8 +18,8 @@ loop-holds c = search needs
 add-s : tie.Need-add-s Inv-loop μ-loop
 add-s c = search needs
 
-get-requires-2 : tie.Need-get-requires-2 Inv-loop μ-loop
-get-requires-2 c κs = search needs
+get-requires : tie.Need-get-requires Inv-loop μ-loop
+get-requires c κs = search needs
 
 returns : tie.Need-returns Inv-loop μ-loop
 returns c = search needs
@@ -60,10 +57,9 @@ reached-are-spec =
     (tie.spec
     Inv-loop
     μ-loop
-    get-requires
     loop-holds
     add-s
-    get-requires-2
+    get-requires
     returns
     mul-if3
     shared-slice-read-if3

@@ -7,34 +7,28 @@ use Rattle.trial_random.proofs.matcher.search.Statement.{statement}
 use Rattle.trial_random.proofs.matcher.search.Tie as tie
 
 abbrev Inv-loop : tie.InvT-loop
-Inv-loop own₀ k head₀ own head = (head ≤ 1040) × (length own ≡ length own₀)
+Inv-loop own₀ board tail₀ head₀ own tail head = (head ≤ 1040) × (length own ≡ length own₀)
 
 abbrev μ-loop : tie.MeasureT-loop
-μ-loop own₀ k head₀ own head = 1040 - head
+μ-loop own₀ board tail₀ head₀ own tail head = 1040 - head
 
-zero-requires : tie.Need-zero-requires Inv-loop μ-loop
-zero-requires c κs = search needs
-
-put-requires : tie.Need-put-requires Inv-loop μ-loop
-put-requires c κs = search needs
-
-put-requires-2 : tie.Need-put-requires-2 Inv-loop μ-loop
-put-requires-2 c κs = search needs
-
-put-requires-3 : tie.Need-put-requires-3 Inv-loop μ-loop
-put-requires-3 c κs = search needs
+visit-first-requires : tie.Need-visit-first-requires Inv-loop μ-loop
+visit-first-requires c κs = search needs
 
 loop-holds : tie.Need-loop-holds Inv-loop μ-loop
 loop-holds c = search needs
-
-get-requires : tie.Need-get-requires Inv-loop μ-loop
-get-requires c κs = search needs
 
 same-length : tie.Need-same-length Inv-loop μ-loop
 same-length c = search needs
 
 returns : tie.Need-returns Inv-loop μ-loop
 returns c = search needs
+
+get-requires : tie.Need-get-requires Inv-loop μ-loop
+get-requires c κs = search needs
+
+slot-word-requires : tie.Need-slot-word-requires Inv-loop μ-loop
+slot-word-requires c κs = search needs
 
 get-requires-2 : tie.Need-get-requires-2 Inv-loop μ-loop
 get-requires-2 c κs = search needs
@@ -45,11 +39,14 @@ same-length-2 c = search needs
 returns-2 : tie.Need-returns-2 Inv-loop μ-loop
 returns-2 c = search needs
 
-get-requires-3 : tie.Need-get-requires-3 Inv-loop μ-loop
-get-requires-3 c κs = search needs
+slot-word-requires-2 : tie.Need-slot-word-requires-2 Inv-loop μ-loop
+slot-word-requires-2 c κs = search needs
 
-visit-list-requires : tie.Need-visit-list-requires Inv-loop μ-loop
-visit-list-requires c κs = search needs
+row-at-requires : tie.Need-row-at-requires Inv-loop μ-loop
+row-at-requires c κs = search needs
+
+visit-requires : tie.Need-visit-requires Inv-loop μ-loop
+visit-requires c κs = search needs
 
 add-head : tie.Need-add-head Inv-loop μ-loop
 add-head c = search needs
@@ -72,19 +69,18 @@ search-spec =
     (tie.spec
     Inv-loop
     μ-loop
-    zero-requires
-    put-requires
-    put-requires-2
-    put-requires-3
+    visit-first-requires
     loop-holds
-    get-requires
     same-length
     returns
+    get-requires
+    slot-word-requires
     get-requires-2
     same-length-2
     returns-2
-    get-requires-3
-    visit-list-requires
+    slot-word-requires-2
+    row-at-requires
+    visit-requires
     add-head
     loop-less
     loop-again
