@@ -15,6 +15,7 @@ use prints::COUNTS;
 use prints::COUNTS_END;
 use prints::ORDER;
 use prints::orders_print;
+use prints::words;
 use trial_kit::CASE;
 use trial_kit::SEED;
 use trial_kit::ask;
@@ -71,7 +72,7 @@ fn lower(board: &mut [u16], n: u16, most: u16) {
 
 // Now and then labels go down, more or less. The moves since they last did.
 fn lowered(n: u16, moves: u64, board: &mut [u16], own: &mut [u16]) -> u64 {
-    let many = draw(own, 40000);
+    let many = draw(own, 4 * words(n));
     let most = draw(own, many);
     if n <= most {
         return moves;
