@@ -1,34 +1,98 @@
 // Orders written and read back.
-use crate::reads::CASE;
-use crate::reads::SEED;
-use crate::reads::line_is;
-use reading::read_line;
-use trial_kit::byte_at;
+ghost use Prim.Native.Nat.{_≤_, _<_};
+use answers::refusal_number;
+use reading::LineOrder;
+use reading::answer_letter;
+use round_trip::RoundTrip;
+use round_trip::read_and_write;
+use round_trip::write_and_read;
+use trial_kit::CASE;
 use trial_kit::count;
-use trial_kit::draw;
-use trial_kit::get;
 use trial_kit::note;
-use trial_kit::put;
-use trial_kit::refusal_number;
-use trial_kit::row_at;
-use trial_kit::zero;
+use trial_kit::same;
+use trial_kit::say;
+use trial_kit::tell;
 use writing::Wrote;
 use writing::write_order;
 
-// The order: its count, its number, its row. From the number on they are the columns of its line.
-const ORDER: usize = 20;
+// Counts of slots times numbers times lists.
+const CASES: u16 = 8 * 10 * 10;
 
-const NUMBER: u16 = 1;
+// Bytes of a buffer, and what it is filled with before an order is written.
+const ROOM: usize = 64;
 
-// What a buffer is filled with before an order is written.
 const FILL: u8 = 85;
+
+// Bytes of an order line without slots, and of a column.
+const FRAME: usize = 8;
+
+const COLUMN: usize = 6;
+
+// Above every count of bytes: a refusal's number is added to it.
+const REFUSED: usize = 1000;
+
+const SHORT: usize = REFUSED + 4;
+
+const BAD_COUNT: usize = REFUSED + 8;
 
 const NUMBERS: [u16; 10] = [1, 9, 10, 99, 100, 999, 1000, 9999, 10000, 65535];
 
-fn same_bytes(a: &[u8], b: &[u8]) -> bool {
+// Times this, the case's number is scattered over 16 bits.
+const SPREAD: u32 = 40503;
+
+// Slot j of a list of c slots: the lowest, the highest, or one of 128 by x; 0 behind the last.
+fn slot(list: u16, c: u16, j: u16, x: u16) -> u16
+    requires { ⌜ (c ≤ 8) × (j ≤ 7) ⌝ }
+{
+    if c <= j {
+        return 0;
+    }
+    if list == 0 {
+        return j + 1;
+    }
+    if list == 1 {
+        return 1025 - c + j;
+    }
+    128 * j + 1 + x / (j + 1) % 128
+}
+
+// Case t: each count with each number, and lists of the lowest slots, of the highest, and eight that are scattered.
+fn order(t: u16) -> LineOrder
+    ensures { λ r. ⌜ r .count ≤ 8 ⌝ }
+{
+    let c = t % 8 + 1;
+    let k = t / 80;
+    let i = (t / 8 % 10) as usize;
+    let x = ((t as u32) * SPREAD % 65536) as u16;
+    let row = [
+        slot(k, c, 0, x),
+        slot(k, c, 1, x),
+        slot(k, c, 2, x),
+        slot(k, c, 3, x),
+        slot(k, c, 4, x),
+        slot(k, c, 5, x),
+        slot(k, c, 6, x),
+        slot(k, c, 7, x),
+    ];
+    LineOrder {
+        number: NUMBERS[i],
+        count: c,
+        row,
+    }
+}
+
+// The bytes that were written, or the refusal.
+fn outcome(w: Wrote) -> usize {
+    match w {
+        Wrote::Written(n) => n,
+        Wrote::Refused(r) => REFUSED + (refusal_number(r) as usize),
+    }
+}
+
+fn same_bytes(a: &[u8; ROOM], b: &[u8; ROOM]) -> bool {
     let mut i: usize = 0;
-    while i < 64 {
-        if byte_at(a, i) != byte_at(b, i) {
+    while i < ROOM {
+        if a[i] != b[i] {
             return false;
         }
         i += 1;
@@ -36,153 +100,112 @@ fn same_bytes(a: &[u8], b: &[u8]) -> bool {
     true
 }
 
-// c slots behind `start`, rising, each at most `gap` behind the one before it.
-fn fill_row(own: &mut [u16], c: u16, start: u16, gap: u16) {
-    let mut s = start;
-    let mut i: u16 = 0;
-    while i < c {
-        let step = draw(own, SEED, gap);
-        s = std::num::wrapping_add_u16(s, std::num::wrapping_add_u16(step, 1));
-        put(own, ORDER + 2, i, s);
-        i += 1;
+// The columns of the order's line: its number, its slots, and nothing.
+fn columns_are(columns: [u16; 10], o: LineOrder) -> bool {
+    if columns[0] != o.number {
+        return false;
     }
+    if columns[9] != 0 {
+        return false;
+    }
+    let row = o.row;
+    same(&columns, 1, &row, 0, 8)
 }
 
-// The refusal of the writer, or 0.
-fn wrote_number(w: Wrote) -> u16 {
-    match w {
-        Wrote::Written(_) => 0,
-        Wrote::Refused(r) => refusal_number(r),
+// As many bytes as the order's count says were written, and what was read is its A line.
+fn trip_is(r: RoundTrip, o: LineOrder) -> bool
+    requires { ⌜ o .count ≤ 8 ⌝ }
+{
+    let wrote = r.wrote;
+    if outcome(wrote) != FRAME + COLUMN * (o.count as usize) {
+        return false;
     }
+    let line = r.line;
+    let kind = line.kind;
+    if answer_letter(kind) != b'A' {
+        return false;
+    }
+    if line.count != (o.count as usize) + 1 {
+        return false;
+    }
+    let columns = line.columns;
+    columns_are(columns, o)
 }
 
-fn wrote_count(w: Wrote) -> usize {
-    match w {
-        Wrote::Written(n) => n,
-        Wrote::Refused(_) => 0,
+// The line in the buffer is read and written again.
+fn again(out: [u8; ROOM], o: LineOrder) -> bool
+    requires { ⌜ o .count ≤ 8 ⌝ }
+{
+    let mut second = [FILL; ROOM];
+    let n = FRAME + COLUMN * (o.count as usize);
+    let r = read_and_write(&out[0..n - 1], &mut second);
+    if !trip_is(r, o) {
+        return false;
     }
+    same_bytes(&out, &second)
 }
 
-// The order that the line says, written again.
-fn rewrite(line: &[u8], c: u16, out: &mut [u8]) -> usize {
-    let r = read_line(line);
-    let v = r.columns;
-    let row = [v[1], v[2], v[3], v[4], v[5], v[6], v[7], v[8]];
-    wrote_count(write_order(out, v[0], c, row))
-}
-
-// The n bytes written are the line of the order, which is written so again. There is room to spare, and that stays as it was.
-fn line_right(out: &[u8], n: usize, own: &[u16]) -> bool {
-    let c = get(own, ORDER, 0);
-    let mut again = [FILL; 64];
-    if n == 0 {
+// The order is written and read back, and then its line. Room to spare stays as it was.
+fn written(o: LineOrder) -> bool
+    requires { ⌜ o .count ≤ 8 ⌝ }
+{
+    let mut out = [FILL; ROOM];
+    let row = o.row;
+    let r = write_and_read(&mut out, o.number, o.count, row);
+    if !trip_is(r, o) {
         return false;
     }
-    if out.len() <= n {
+    let n = FRAME + COLUMN * (o.count as usize);
+    if out[n - 1] != b'\n' {
         return false;
     }
-    if byte_at(out, n - 1) != b'\n' {
+    if out[n] != FILL {
         return false;
     }
-    if byte_at(out, n) != FILL {
-        return false;
-    }
-    if !line_is(
-        &out[..n - 1],
-        own,
-        0,
-        b'A',
-        std::num::wrapping_add_u16(c, 1),
-    ) {
-        return false;
-    }
-    if rewrite(&out[..n - 1], c, &mut again) != n {
-        return false;
-    }
-    same_bytes(out, &again)
-}
-
-// The order is written, in as many bytes as its count says, and read back.
-fn written(own: &[u16]) -> bool {
-    let c = get(own, ORDER, 0);
-    let mut out = [FILL; 64];
-    let w = write_order(&mut out, get(own, ORDER, NUMBER), c, row_at(own, ORDER));
-    let n = wrote_count(w);
-    if n != 8 + 6 * (c as usize) {
-        return false;
-    }
-    line_right(&out, n, own)
+    again(out, o)
 }
 
 // The writer refuses the order, with this count and so many bytes, and writes nothing.
-fn refused(own: &[u16], c: u16, room: usize, refusal: u16) -> bool {
-    let mut out = [FILL; 64];
-    let all = [FILL; 64];
-    let part: &mut [u8] = &mut out;
-    if part.len() < room {
+fn refused(o: LineOrder, count: u16, room: usize, expected: usize) -> bool
+    requires { ⌜ room ≤ 64 ⌝ }
+{
+    let mut out = [FILL; ROOM];
+    let all = [FILL; ROOM];
+    let row = o.row;
+    let w = write_order(&mut out[0..room], o.number, count, row);
+    if outcome(w) != expected {
         return false;
     }
-    let w = write_order(
-        &mut part[..room],
-        get(own, ORDER, NUMBER),
-        c,
-        row_at(own, ORDER),
-    );
-    if wrote_number(w) != refusal {
-        return false;
-    }
-    same_bytes(part, &all)
+    same_bytes(&out, &all)
 }
 
 // One byte too few, no slot and nine slots are refused.
-fn refusals(own: &[u16]) -> bool {
-    let c = get(own, ORDER, 0);
-    if !refused(own, c, 7 + 6 * (c as usize), 4) {
+fn refusals(o: LineOrder) -> bool
+    requires { ⌜ o .count ≤ 8 ⌝ }
+{
+    if !refused(o, o.count, FRAME - 1 + COLUMN * (o.count as usize), SHORT) {
         return false;
     }
-    if !refused(own, 0, 64, 8) {
+    if !refused(o, 0, ROOM, BAD_COUNT) {
         return false;
     }
-    refused(own, 9, 64, 8)
-}
-
-fn start(list: u16, c: u16) -> u16 {
-    if list == 1 {
-        return std::num::wrapping_sub_u16(1024, c);
-    }
-    0
-}
-
-fn gap(list: u16) -> u16 {
-    if list < 2 {
-        return 1;
-    }
-    128
-}
-
-// Case t: each count with each number, and lists of the lowest slots, of the highest and random ones.
-fn choose(own: &mut [u16], t: u16) {
-    let c = t % 8 + 1;
-    let i = (t / 8 % 10) as usize;
-    zero(own, ORDER, 11);
-    put(own, ORDER, 0, c);
-    put(own, ORDER, NUMBER, NUMBERS[i]);
-    fill_row(own, c, start(t / 80, c), gap(t / 80));
+    refused(o, 9, ROOM, BAD_COUNT)
 }
 
 fn one_order(own: &mut [u16], t: u16) {
     count(own, CASE);
-    choose(own, t);
-    let good = written(own);
-    let not = refusals(own);
-    note(own, b'w', good);
-    note(own, b'n', not);
+    let o = order(t);
+    note(own, b'w', written(o));
+    note(own, b'n', refusals(o));
 }
 
-pub(crate) fn run(own: &mut [u16]) {
+pub(crate) fn run() {
+    let mut own = [0u16; 16];
     let mut t: u16 = 0;
-    while t < 800 {
-        one_order(own, t);
+    while t < CASES {
+        one_order(&mut own, t);
         t += 1;
     }
+    say(b"orders written and read back");
+    tell(&mut own);
 }

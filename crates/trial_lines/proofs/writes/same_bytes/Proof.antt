@@ -1,7 +1,5 @@
 -- `trial_lines::writes::same_bytes` is safe and ends.
-use lib.ListN.{length}
-use mathlib.Core.Path.{_≡_}
-use Prim.Native.Nat.{_≤_, _-_, _+_, _<_}
+use Prim.Native.Nat.{_-_, _≤_}
 use borrow.Author.Needs.{needs}
 use Rattle.trial_lines.proofs.writes.same_bytes.Statement.{statement}
 use Rattle.trial_lines.proofs.writes.same_bytes.Tie as tie
@@ -15,11 +13,11 @@ abbrev μ-loop : tie.MeasureT-loop
 loop-holds : tie.Need-loop-holds Inv-loop μ-loop
 loop-holds c = search needs
 
-byte-at-requires : tie.Need-byte-at-requires Inv-loop μ-loop
-byte-at-requires c κs = search needs
+element-copy-out-if1 : tie.Need-element-copy-out-if1 Inv-loop μ-loop
+element-copy-out-if1 c = search needs
 
-byte-at-requires-2 : tie.Need-byte-at-requires-2 Inv-loop μ-loop
-byte-at-requires-2 c κs = search needs
+element-copy-out-if1-2 : tie.Need-element-copy-out-if1-2 Inv-loop μ-loop
+element-copy-out-if1-2 c = search needs
 
 returns : tie.Need-returns Inv-loop μ-loop
 returns c = search needs
@@ -43,8 +41,8 @@ same-bytes-spec =
     Inv-loop
     μ-loop
     loop-holds
-    byte-at-requires
-    byte-at-requires-2
+    element-copy-out-if1
+    element-copy-out-if1-2
     returns
     add-i
     loop-less
