@@ -145,6 +145,21 @@ fn again(out: [u8; ROOM], o: LineOrder) -> bool
     same_bytes(&out, &second)
 }
 
+// And not where there is one byte too few for it: nothing is written then.
+fn not_again(out: [u8; ROOM], o: LineOrder) -> bool
+    requires { ⌜ o .count ≤ 8 ⌝ }
+{
+    let mut second = [FILL; ROOM];
+    let all = [FILL; ROOM];
+    let n = FRAME + COLUMN * (o.count as usize);
+    let r = read_and_write(&out[0..n - 1], &mut second[0..n - 1]);
+    let wrote = r.wrote;
+    if outcome(wrote) != SHORT {
+        return false;
+    }
+    same_bytes(&second, &all)
+}
+
 // The order is written and read back, and then its line. Room to spare stays as it was.
 fn written(o: LineOrder) -> bool
     requires { ⌜ o .count ≤ 8 ⌝ }
@@ -162,7 +177,10 @@ fn written(o: LineOrder) -> bool
     if out[n] != FILL {
         return false;
     }
-    again(out, o)
+    if !again(out, o) {
+        return false;
+    }
+    not_again(out, o)
 }
 
 // The writer refuses the order, with this count and so many bytes, and writes nothing.
