@@ -20,7 +20,6 @@ pub use tallies::note;
 pub use tallies::put_wide;
 pub use tallies::tell;
 pub use tallies::wide_at;
-pub use texts::byte_at;
 pub use texts::line_end;
 pub use texts::numbers;
 pub use texts::read_all;
@@ -63,7 +62,7 @@ pub fn put(a: &mut [u16], at: usize, i: u16, v: u16)
 }
 
 // What word i is before a call that must leave it alone: never 0, and not the same in neighbours.
-pub fn mark(i: usize) -> u16
+fn mark(i: usize) -> u16
     ensures { λ r. ⌜ r ≡ markOf i ⌝ }
 {
     (i % 1000) as u16 + 7000
@@ -129,7 +128,7 @@ pub fn zero(a: &mut [u16], at: usize, k: u16)
 }
 
 // No word from index `from` up to `to` is other than 0.
-pub fn zeros(a: &[u16], from: usize, to: usize) -> bool
+fn zeros(a: &[u16], from: usize, to: usize) -> bool
     ensures { λ r. ⌜ r ≡ all (empty (now (a .entry))) (to - from) from ⌝ }
 {
     let mut i = from;
@@ -160,7 +159,7 @@ pub fn board_size(n: u16) -> usize
     2 + 11 * (n as usize)
 }
 
-pub fn work_size(n: u16) -> usize
+fn work_size(n: u16) -> usize
     ensures { λ r. ⌜ r ≡ workSize n ⌝ }
 {
     13 * (n as usize) + 4

@@ -38,7 +38,7 @@ pub fn line_end(s: &[u8], from: usize) -> usize
 }
 
 // Byte i, or 0.
-pub fn byte_at(s: &[u8], i: usize) -> u8
+fn byte_at(s: &[u8], i: usize) -> u8
     ensures { λ r. ⌜ r ≡ getD (now (s .entry)) i 0 ⌝ }
 {
     if s.len() <= i {
