@@ -27,13 +27,13 @@ use checking::Known;
 use checking::assess;
 pub use checking::check;
 use checking::short_for;
+use storing::put_size;
+use storing::zero_front;
 use withdrawing::take_out;
 use words::MOST_SLOTS;
 use words::board_words;
-use words::put_size;
 use words::size_of;
 use words::work_words;
-use words::zero_front;
 
 // "open a board, accept an order, withdraw one, print"
 pub enum Ask {

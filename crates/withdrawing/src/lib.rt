@@ -9,13 +9,13 @@ ghost use Rattle.withdrawing.specs.TakesOut.{TakesOut};
 use answers::Answer;
 use answers::Refusal;
 use checking::find;
+use storing::put_free;
+use storing::put_held;
+use storing::put_label;
 use words::LABEL;
 use words::board_words;
 use words::held_of;
 use words::number_at;
-use words::put_free;
-use words::put_held;
-use words::put_label;
 use words::size_of;
 use words::start_of;
 

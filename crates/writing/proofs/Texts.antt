@@ -3,18 +3,15 @@ use mathlib.Core.Path.{_≡_, refl, sym, ap, ap₂, _∙_}
 use mathlib.Core.List.{List, [], _∷_, _++_, append-assoc}
 use Prim.Native.Nat.{ℕ, zero, suc, _+_, _-_, _/_, _≤_, _<_}
 use native.Mathlib.Omega.{arith}
-use native.Mathlib.Nat.{zero-add, add-zero, add-suc, suc-add}
+use native.Mathlib.Nat.{zero-add}
 use native.Mathlib.Numerals.{add-one}
 use lib.Dec.{eqb·suc-zero}
 use lib.ListN.{length, getD, drop, set, length-set, length-append, drop-of-length-le}
 use lib.Seq.{sets, sets-eq, set-comm, length-sets, drop-cons}
 use Rattle.rules.specs.Text.{space, lineFeed, digit, glyph, padded, column, columns, textLine}
 use Rattle.rules.proofs.TextLaws.{length-padded, length-column}
+use Rattle.rules.proofs.WordLaws.{sets-append}
 use Rattle.writing.specs.Storing.{lastDigit, Stores}
-
-pub sets-append : (l : List ℕ) (i : ℕ) (a b : List ℕ) → sets (sets l i a) (i + length a) b ≡ sets l i (a ++ b)
-sets-append l i [] b = rw add-zero
-sets-append l i (x ∷ a) b = rw (add-suc, ← suc-add) (sets-append (set l i x) (suc i) a b)
 
 -- stored at the start
 pub sets-start : (l a : List ℕ) → length a ≤ length l → sets l 0 a ≡ a ++ drop (length a) l
