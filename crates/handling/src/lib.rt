@@ -177,21 +177,6 @@ pub fn handle_next(
     h.noted
 }
 
-// The same for a caller that has the tally by value: its copy is lent and handed back.
-pub fn tallied(
-    line: &[u8],
-    board: &mut [u16],
-    work: &mut [u16],
-    tally: Tally,
-    known: Known,
-) -> Turned
-    ensures { λ r. ⌜ Turns (now (line .entry)) known (stateOf (now (board .entry)) (now (work .entry)) tally) (r .noted) (r .tally) (now (board .exit)) (now (work .exit)) ⌝ }
-{
-    let mut day = tally;
-    let noted = handle_next(line, board, work, &mut day, known);
-    Turned { noted, tally: day }
-}
-
 // A line whose board is looked at first.
 pub fn handle(line: &[u8], board: &mut [u16], work: &mut [u16], tally: Tally) -> Handled
     ensures { λ r. ⌜ handledOf r (now (board .exit)) (now (work .exit))

@@ -1,4 +1,4 @@
--- `handling::tallied` meets its contract: a walk of its MIR, by hand. The tally is copied into a local that is lent to `handle_next` for a lifetime of the call,
+-- `tallied` meets its contract: a walk of its MIR, by hand. The tally is copied into a local that is lent to `handle_next` for a lifetime of the call,
 -- and comes back at the last value that its contract says; board and work words go to it for good; the line's slice is Copy. Assumes nothing.
 use mathlib.Core.Path.{_≡_, refl, ap}
 use Prim.Native.Nat.{ℕ}
@@ -44,26 +44,26 @@ use denote.Triple.Clauses.{ensured, lasts}
 use denote.Exit.{yes}
 use Rattle.answers.specs.declared.Tally.{Tally}
 use Rattle.checking.specs.declared.Known.{Known}
 use Rattle.handling.specs.declared.Noted.{Noted}
 use Rattle.handling.specs.declared.Turned.{Turned}
 use Rattle.answers.specs.Values.{stateOf}
 use Rattle.handling.specs.Turns.{Turns}
 use Rattle.answers.proofs.Tally as T
 use Rattle.answers.proofs.Tally.Laws as T′
 use Rattle.checking.proofs.Known as K
 use Rattle.checking.proofs.Known.Laws as K′
 use Rattle.handling.proofs.Noted as R
 use Rattle.handling.proofs.Noted.Laws as R′
 use Rattle.handling.proofs.Turned as S
 use Rattle.handling.proofs.Turned.Laws as S′
 use Rattle.handling.proofs.handle_next as callee
 use Rattle.handling.proofs.handle_next.Symbol as callee-def
 use Rattle.handling.proofs.handle_next.Symbol.{name as #handling·handle-next}
 use Rattle.handling.proofs.handle_next.Met as callee-thm
-use Rattle.handling.proofs.tallied.Key.{name as #handling·tallied}
-use Rattle.handling.proofs.tallied as self
-use Rattle.handling.proofs.tallied.Statement as stated
-use Rattle.handling.proofs.tallied.Code as code
+use Rattle.running.proofs.tallied.Key.{name as #running·tallied}
+use Rattle.running.proofs.tallied as self
+use Rattle.running.proofs.tallied.Statement as stated
+use Rattle.running.proofs.tallied.Code as code
 
 abbrev stayed : Stays (self.ended .signature .params) (self.ended .kept)
 stayed = (stay-none-slice (0 ∷ []) tt (plain (λ _. u8)) yes, (gave-slice (1 ∷ []) tt (plain (λ _. u16)), (gave-slice (2 ∷ []) tt (plain (λ _. u16)), (stay-none (λ _. T.the-row) yes, (stay-none (λ _. K.the-row) yes, tt)))))
@@ -235,6 +235,6 @@ pub tallied-spec : {M : Type 1} → stated.statement M
 unfolding code.routine tablesOf
 tallied-spec 𝓤 H 𝓜 𝓖 𝓡 =
     entered 𝓤 H (tripleOf 𝓤 H (𝓖 .A) self.signature (self.spec 𝓤 H (𝓖 .A) (𝓜 .mem) (𝓡 .run)))
-    (tables 𝓤 H 𝓜 𝓡 code.env .C) (tables 𝓤 H 𝓜 𝓡 code.env .Λ) #handling·tallied code.function (code.unfolded 𝓤 H 𝓜 𝓡)
+    (tables 𝓤 H 𝓜 𝓡 code.env .C) (tables 𝓤 H 𝓜 𝓡 code.env .Λ) #running·tallied code.function (code.unfolded 𝓤 H 𝓜 𝓡)
     (meets 𝓤 H (𝓖 .A) (givenOf 𝓤 H 𝓜 𝓖) (𝓜 .mem) (𝓡 .run) (tablesOf 𝓤 H 𝓜 (tables 𝓤 H 𝓜 𝓡 code.env))
     (cited 𝓤 H (Callee 𝓤 H (𝓖 .A) (𝓜 .mem) (𝓡 .run)) 𝓜 𝓡 code.env #handling·handle-next callee-def.routine code.calls-handling·handle-next (callee-thm.met 𝓤 H 𝓜 𝓖 𝓡)))
