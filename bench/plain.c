@@ -158,14 +158,11 @@ static uint64_t place(struct slot x)
         for (i = 1; i < x.count; i++) {
             unsigned t = x.row[i], l = board[t].label;
             if (l < least) {
+                other = least;
                 best = t;
                 least = l;
-            }
-        }
-        for (i = 0; i < x.count; i++) {
-            unsigned t = x.row[i];
-            if (t != best && board[t].label < other)
-                other = board[t].label;
+            } else if (l < other)
+                other = l;
         }
         y = board[best];
         x.label = (uint16_t)(other < n ? other + 1 : n);

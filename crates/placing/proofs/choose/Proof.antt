@@ -1,0 +1,90 @@
+use mathlib.Core.Path.{_≡_}
+use Prim.Native.Nat.{_-_, _≤_}
+use native.Mathlib.Omega.{arith}
+use lib.ListN.{length}
+use borrow.Author.Needs.{needs}
+use Rattle.placing.proofs.Walks.{Met, no-choice, first-met, one-more, last-met}
+use Rattle.placing.proofs.choose.Statement.{statement}
+use Rattle.placing.proofs.choose.Tie as tie
+
+abbrev Inv-loop : tie.InvT-loop
+Inv-loop board n count row slot least best₀ i₀ best i = (i ≤ count) × (count ≤ length row) × Met board n row count i best
+
+abbrev μ-loop : tie.MeasureT-loop
+μ-loop board n count row slot least best₀ i₀ best i = count - i
+
+eight : (c : tie.After-row Inv-loop μ-loop) → length (c .before .before .args .choices .row) ≡ 8
+eight c = search needs
+
+label-at-requires : tie.Need-label-at-requires Inv-loop μ-loop
+label-at-requires c κs = search needs
+
+returns : tie.Need-returns Inv-loop μ-loop
+returns c =
+    let a = c .before .before .before .before .args in
+    no-choice (a .board .now) (a .n) (a .choices .row) (a .choices .count) (c .before .if1 .taken) (c .label-at .result) (c .label-at .ensures)
+
+array-read-slot : tie.Need-array-read-slot Inv-loop μ-loop
+array-read-slot c = search needs
+
+label-at-requires-2 : tie.Need-label-at-requires-2 Inv-loop μ-loop
+label-at-requires-2 c κs = search needs
+
+loop-holds : tie.Need-loop-holds Inv-loop μ-loop
+loop-holds c =
+    let a = c .before .before .before .before .args in
+    let some : 1 ≤ a .choices .count = omega arith in
+    let long : a .choices .count ≤ length (a .choices .row) = omega (arith, eight (c .before .before), c .before .before .before .before .pre) in
+    (some, long, first-met (a .board .now) (a .n) (a .choices .row) (a .choices .count) some long (c .label-at2 .result) (c .label-at2 .ensures))
+
+mul-s : tie.Need-mul-s Inv-loop μ-loop
+mul-s c = search needs
+
+array-read-s : tie.Need-array-read-s Inv-loop μ-loop
+array-read-s c = search needs
+
+label-at-requires-3 : tie.Need-label-at-requires-3 Inv-loop μ-loop
+label-at-requires-3 c κs = search needs
+
+meet-requires : tie.Need-meet-requires Inv-loop μ-loop
+meet-requires c κs = search needs
+
+add-i : tie.Need-add-i Inv-loop μ-loop
+add-i c = search needs
+
+loop-less : tie.Need-loop-less Inv-loop μ-loop
+loop-less c = search needs
+
+loop-again : tie.Need-loop-again Inv-loop μ-loop
+loop-again c =
+    let a = c .before .before .before .before .before .before .before .before .args in
+    let l = c .before .before .before .loop in
+    let more = c .before .before .loop-test .taken in
+    let r = c .before .label-at3 in
+    (omega (arith, more), l .inv .1, one-more (a .board .now) (a .n) (a .choices .row) (a .choices .count) (l .i) (l .best) more (l .inv .1) (r .result) (r .ensures) (c .meet .result) (c .meet .ensures) (l .inv .2))
+
+returns-2 : tie.Need-returns-2 Inv-loop μ-loop
+returns-2 c =
+    let a = c .before .before .before .before .before .before .args in
+    let l = c .before .loop in
+    last-met (a .board .now) (a .n) (a .choices .row) (a .choices .count) (l .i) (l .best) (c .loop-test .left) (l .inv .1) (l .inv .2)
+
+pub choose-spec : {M : Type 1} → statement M
+choose-spec =
+    tie.close
+    (tie.spec
+    Inv-loop
+    μ-loop
+    label-at-requires
+    returns
+    array-read-slot
+    label-at-requires-2
+    loop-holds
+    mul-s
+    array-read-s
+    label-at-requires-3
+    meet-requires
+    add-i
+    loop-less
+    loop-again
+    returns-2)
