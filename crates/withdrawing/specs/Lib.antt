@@ -1,1 +1,2 @@
+pub mod Relabelled
 pub mod TakesOut

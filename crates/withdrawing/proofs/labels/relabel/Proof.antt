@@ -2,8 +2,8 @@ use mathlib.Core.Path.{sym, _∙_}
 use borrow.Author.Tests.{eq-eqb, ne-eqb}
 use Rattle.rules.specs.Layout.{numberAt}
 use borrow.Author.Needs.{needs}
-use Rattle.withdrawing.proofs.relabel.Statement.{statement}
-use Rattle.withdrawing.proofs.relabel.Tie as tie
+use Rattle.withdrawing.proofs.labels.relabel.Statement.{statement}
+use Rattle.withdrawing.proofs.labels.relabel.Tie as tie
 
 number-at-requires : tie.Need-number-at-requires
 number-at-requires c κs = search needs
