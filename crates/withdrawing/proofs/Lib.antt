@@ -1,2 +1,1 @@
-pub mod Relabelling
 pub mod TakingOut

@@ -1,2 +1,1 @@
-pub mod Relabelled
 pub mod TakesOut

@@ -1,13 +1,11 @@
 // A withdrawal that no early check turned down, of any words: its late checks, its slot zeroed, the labels of the held slots.
-mod labels;
-
 ghost use mathlib.Core.Path.{_≡_};
 ghost use Prim.Native.Nat.{_-_};
 ghost use Rattle.withdrawing.specs.TakesOut.{TakesOut};
 use answers::Answer;
 use answers::Refusal;
 use checking::find;
-use labels::relabel_all;
+use relabelling::relabel_all;
 use storing::put_free;
 use storing::put_held;
 use words::held_of;
