@@ -34,9 +34,9 @@ fn relabel_slow(board: &mut [u16], n: u16)
     }
 }
 
-// There is nothing to set. Both are told by one number, the label and one more where the slot is held: 0 is a free slot, 2 a held one with label 1
-// (or a free one with label 2). So there is one branch, and it goes the same way for every slot but those that an order moved into since the last
-// withdrawal; a branch on whether the slot is free is often guessed wrong.
+// Nothing is to be set: the slot is free, or its label is 1. One number tells it, the label and one more where the slot is held: 0 is a free slot, 2
+// a held one with label 1 (or a free one with label 2). So there is one branch, and it goes the same way for every slot but those that an order
+// moved into since the last withdrawal; a branch on whether the slot is free is often guessed wrong.
 fn settled(number: u16, label: u16) -> bool
     ensures { λ r. ⌜ (r ≡ true → Settled number label) ⌝ }
 {
