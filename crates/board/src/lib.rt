@@ -1,5 +1,7 @@
 // The calls of document 01 on a lent board. `perform` does each of them by what is known of board and work words, and says what is known after it;
 // a single call finds that out first.
+#![tactic(auto)]
+
 ghost use Rattle.std.specs.Prelude.{◌≡◌, cond, min, ltb, leb};
 ghost use Rattle.rules.specs.Calls.{
   first,

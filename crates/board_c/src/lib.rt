@@ -1,4 +1,6 @@
 // The board for programs in C: numbers and slices only. The benchmark links it.
+#![tactic(auto)]
+
 ghost use Rattle.std.specs.Prelude.{◌≡◌};
 ghost use Rattle.matching.specs.Lists.{indicator};
 ghost use Rattle.rules.specs.Check.{passes};

@@ -1,4 +1,6 @@
 // Where a line ends.
+#![tactic(auto)]
+
 ghost use Rattle.std.specs.Prelude.{◌≡◌, ◌≤◌, length};
 ghost use Rattle.framing.specs.Ends.{line_end};
 

@@ -1,4 +1,6 @@
 // One line: read, performed by what is known, replied, with the day's tally lent; and what is known after it.
+#![tactic(auto)]
+
 ghost use Rattle.std.specs.Prelude.{◌≡◌, cond, get_or};
 ghost use Rattle.rules.specs.Layout.{held_count};
 ghost use Rattle.rules.specs.Runs.{handle_line};

@@ -36,7 +36,7 @@ pub seat_of : List Seat → ℕ → ℕ
 seat_of [] k = 0
 seat_of (p ∷ ps) k = let rest = seat_of ps k in cond (eqb p.who.number k) p.slot rest
 
-pub count_if-pos : {A : Type 0} (P : A → Bool) {l : List A} {a : A} → Mem a l → T (P a) → 1 ≤ count_if P l
+pub count_if-pos : {A : Type 0} (P : A → Bool) {a : A} {l : List A} → Mem a l → T (P a) → 1 ≤ count_if P l
 count_if-pos P (here {x = b} e) t = omega (arith, indicator-of (P b) (subst (λ c. T (P c)) e t))
 count_if-pos P (there m) t = omega (arith, count_if-pos P m t)
 

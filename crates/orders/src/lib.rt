@@ -1,4 +1,6 @@
 // The checks of an order that need no board, 7 to 10 of document 01: the calls and the order writer share them.
+#![tactic(auto)]
+
 ghost use Rattle.std.specs.Prelude.{◌≡◌, [], min, take};
 ghost use Rattle.matching.specs.Lists.{rising};
 ghost use Rattle.rules.specs.Calls.{first, on_board, order_checks};

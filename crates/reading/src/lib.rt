@@ -1,4 +1,5 @@
 // A line from the printers: its bytes, without the line feed, as a kind and up to ten numbers, or as refusal 1 or 2.
+#![tactic(auto)]
 
 ghost use Rattle.std.specs.Prelude.{◌≡◌, true, ◌∷◌, ◌-◌, ◌*◌, ◌≤◌, min, length, take, drop, get_or, replicate};
 ghost use Rattle.rules.specs.InputLines.{column_bytes};

@@ -1,4 +1,6 @@
 // The labels that a withdrawal leaves: 1 in each held slot.
+#![tactic(auto)]
+
 ghost use Rattle.std.specs.Prelude.{true, ◌≡◌, ◌+◌, ◌*◌, ◌≤◌, length};
 ghost use Rattle.matching.specs.Lists.{slots};
 ghost use Rattle.rules.specs.Calls.{relabelled, relabelled_all};

@@ -1,4 +1,6 @@
 // Order lines and orders give each other back: an order written and its line read, a line read and its order written.
+#![tactic(auto)]
+
 ghost use Rattle.std.specs.Prelude.{◌≡◌};
 ghost use Rattle.writing.specs.Wrote.{wrote_of};
 ghost use Rattle.round_trip.specs.WriteRead.{WritesReads, bytes_before};

@@ -1,5 +1,7 @@
 // Reads standard input to its end in pieces, hands them to the block function and writes the answers, then the N line. It is proved here what the loop keeps:
 // no byte that waits between two reads is lost, and no line.
+#![tactic(auto)]
+
 ghost use Rattle.std.specs.Prelude.{◌≡◌, ◌+◌, ◌≤◌, ◌<◌, length, take, drop};
 ghost use Rattle.rules.specs.Chunks.{reply_room, waiting};
 ghost use Rattle.rules.specs.Runs.{new_day};

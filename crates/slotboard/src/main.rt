@@ -1,4 +1,6 @@
 // The program: the words of 1,024 slots, all 0, a buffer for what is read and a room for the answers.
+#![tactic(auto)]
+
 ghost use Rattle.std.specs.Prelude.{◌≡◌, ◌≤◌, ◌<◌, length};
 ghost use Rattle.rules.specs.Chunks.{reply_room, waiting};
 ghost use Rattle.rules.specs.Runs.{start};

@@ -1,5 +1,7 @@
 // Orders and numbers into lent words. Every function is total: a store to a word that the buffer does not have does nothing, as the definitions
 // `set` and `sets` say.
+#![tactic(auto)]
+
 ghost use Rattle.std.specs.Prelude.{◌≡◌, ◌+◌, ◌≤◌, ◌<◌, min, length, take, set, replicate};
 ghost use Rattle.std.proofs.lemmas.List.Edits.{sets};
 ghost use Rattle.rules.specs.Layout.{

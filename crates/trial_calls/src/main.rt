@@ -14,6 +14,8 @@
 //   =NAME                     ends a group: its name and how often it was right are printed
 //   #                         a remark
 // Lines that change the expected board stand before the call that changes the board.
+#![tactic(auto)]
+
 mod bench;
 mod script;
 

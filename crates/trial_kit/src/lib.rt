@@ -1,6 +1,8 @@
 // What the trial programs share: words that can be read and written at any index, a pattern in words that must stay,
 // calls by their letter, tallies, what is printed, draws, and standard input in lines.
 // Nothing here is taken from the library under test but its calls.
+#![tactic(auto)]
+
 mod asks;
 mod tallies;
 mod texts;

@@ -1,4 +1,6 @@
 // Orders are written and read back. Then standard input, lines of whole runs, is run three times from the start, and all answers are printed.
+#![tactic(auto)]
+
 mod runs;
 mod writes;
 

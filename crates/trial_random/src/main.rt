@@ -1,5 +1,7 @@
 // Random boards against a plain breadth-first matcher. For each n several boards are opened and many random calls made;
 // after each call the answer, the board and the work words are held to what this program finds out by itself.
+#![tactic(auto)]
+
 mod judge;
 mod matcher;
 mod plan;

@@ -1,4 +1,6 @@
 // A withdrawal that no early check turned down, of any words: its late checks, its slot zeroed, the labels of the held slots.
+#![tactic(auto)]
+
 ghost use Rattle.std.specs.Prelude.{◌≡◌, ◌-◌};
 ghost use Rattle.withdrawing.specs.TakesOut.{TakesOut};
 

@@ -1,4 +1,6 @@
 // All text that goes out, as bytes in a lent buffer. A text that the buffer has no room for is not begun.
+#![tactic(auto)]
+
 mod text;
 
 ghost use Rattle.std.specs.Prelude.{◌≡◌, [], ◌∷◌, ◌++◌, ◌+◌, ◌≤◌, ◌<◌, leb, length, take};
