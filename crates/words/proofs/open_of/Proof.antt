@@ -8,7 +8,7 @@ use Rattle.words.proofs.open_of.Tie as tie
 places-requires : tie.Need-places-requires
 places-requires c κs = search rules
 
-cast-count : tie.Need-overflow-cast-count
+cast-count : tie.Need-overflow_cast-count
 cast-count c = search rules
 
 returns : tie.Need-returns
