@@ -27,7 +27,7 @@ use withdrawing::take_out;
 use words::{MOST_SLOTS, board_words, size_of, work_words};
 
 // "open a board, accept an order, withdraw one, print"
-#[derive(Drop)]
+#[derive(Clone, Copy)]
 pub enum Ask {
     Open,
     Accept,
@@ -36,7 +36,7 @@ pub enum Ask {
 }
 
 // A call: the size to open or the order's number; the count and the row are an order's.
-#[derive(Drop)]
+#[derive(Clone, Copy)]
 pub struct Request {
     pub ask: Ask,
     pub number: u16,
@@ -45,7 +45,7 @@ pub struct Request {
 }
 
 // The answer, and what is known after the call.
-#[derive(Drop)]
+#[derive(Clone, Copy)]
 pub struct Performed {
     pub answer: Answer,
     pub known: Known,

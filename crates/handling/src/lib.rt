@@ -17,14 +17,14 @@ use reading::{Kind, Line, answer_letter, gate_of, order_of, read_line};
 use words::held_of;
 
 // The reply to a line, and what is known after it.
-#[derive(Drop)]
+#[derive(Clone, Copy)]
 pub struct Noted {
     pub reply: Reply,
     pub known: Known,
 }
 
 // The same with the tally.
-#[derive(Drop)]
+#[derive(Clone, Copy)]
 pub struct Turned {
     pub noted: Noted,
     pub tally: Tally,

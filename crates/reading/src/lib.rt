@@ -24,7 +24,7 @@ const MOST_VALUE: u32 = 65535;
 const SPACE: u8 = 32;
 
 // What a line is: one of the four that are known, or refused by 1 or by 2.
-#[derive(Drop)]
+#[derive(Clone, Copy)]
 pub enum Kind {
     Open,
     Accept,
@@ -35,7 +35,7 @@ pub enum Kind {
 }
 
 // A line that is refused has no columns.
-#[derive(Drop)]
+#[derive(Clone, Copy)]
 pub struct Line {
     pub kind: Kind,
     pub count: usize,
@@ -43,7 +43,7 @@ pub struct Line {
 }
 
 // An order as a line gives it: its number, how many slots it lists, and the first eight of them.
-#[derive(Drop)]
+#[derive(Clone, Copy)]
 pub struct LineOrder {
     pub number: u16,
     pub count: u16,
@@ -51,7 +51,7 @@ pub struct LineOrder {
 }
 
 // How far the reading of a column has come.
-#[derive(Drop)]
+#[derive(Clone, Copy)]
 enum State {
     Blank,
     Zero,
@@ -59,14 +59,14 @@ enum State {
     Spoilt,
 }
 
-#[derive(Drop)]
+#[derive(Clone, Copy)]
 enum Cell {
     Value(u32),
     Unread,
 }
 
 // Columns that stand one after another: whether each is a column, if so whether each is at most 65,535, and how far they were read.
-#[derive(Drop)]
+#[derive(Clone, Copy)]
 struct Columns {
     formed: bool,
     fits: bool,
@@ -75,14 +75,14 @@ struct Columns {
 }
 
 // A line's letter, and how far it was read.
-#[derive(Drop)]
+#[derive(Clone, Copy)]
 struct LetterRead {
     letter: u8,
     at: usize,
 }
 
 // A line, and how far it was read.
-#[derive(Drop)]
+#[derive(Clone, Copy)]
 struct LineRead {
     line: Line,
     at: usize,
@@ -365,7 +365,7 @@ pub fn order_of(l: Line) -> LineOrder
 }
 
 // A line's bytes, and how far the reading has come.
-#[derive(Drop)]
+#[derive(Clone, Copy)]
 struct LineReader<'a> {
     pub line: &'a [u8],
     pub at: usize,

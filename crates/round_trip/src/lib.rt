@@ -11,7 +11,7 @@ use reading::{Kind, Line, order_of, read_line};
 use writing::{Wrote, write_order};
 
 // What the line reader and the order writer answered.
-#[derive(Drop)]
+#[derive(Clone, Copy)]
 pub struct RoundTrip {
     pub line: Line,
     pub wrote: Wrote,

@@ -38,7 +38,7 @@ const NUMBER_BYTES: usize = FRAME + ORDER_WIDTH;
 const NO_SLOT: u16 = 12;
 
 // The count of bytes written, or why nothing was.
-#[derive(Drop)]
+#[derive(Clone, Copy)]
 pub enum Wrote {
     Written(usize),
     Refused(Refusal),

@@ -1,0 +1,13 @@
+use Prim.Native.Nat.{◌-◌, ◌≤◌}
+use mathlib.Core.Path.{◌≡◌, refl, sym, ◌∙◌}
+use lib.ListN.{length}
+use Rattle.framing.specs.Ends.{line_end}
+use Rattle.framing.proofs.EndLaws.{end-here, end-past, end-over}
+use Rattle.framing.proofs.end_from.Given as goal
+
+-- `framing::end_from` meets its contract. The invariant: the line that has come to i ends where it ended before.
+abbrev pub invariant-loop-i : goal.invariant-loop-i
+invariant-loop-i l = (l.i ≤ length l.s) × (line_end l.s l.i ≡ line_end l.s l.from)
+
+abbrev pub decreases-loop-i : goal.decreases-loop-i
+decreases-loop-i l = length l.s - l.i

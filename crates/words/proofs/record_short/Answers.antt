@@ -1,0 +1,9 @@
+use Prim.Native.Nat.{◌-◌}
+use native.Mathlib.Omega.{arith}
+use lib.ListN.{length}
+use Rattle.words.proofs.Copies.{Copies, begins, more, done}
+use Rattle.words.proofs.record_short.Goals as goal
+
+pub returns : goal.returns
+returns c =
+    done 11 c.args.board.now c.args.at c.loop-k.out c.loop-k.k c.loop-k.invariant (omega (arith, c.loop-k-test.false))
