@@ -1,0 +1,15 @@
+use mathlib.Core.Bool.{Bool}
+use mathlib.Core.Path.{◌≡◌, sym, ◌∙◌, subst}
+use Prim.Native.Nat.{◌-◌, ◌≤◌}
+use native.Mathlib.Omega.{arith}
+use lib.Dec.{T}
+use lib.ListN.{length}
+use Rattle.words.proofs.OpenSlots.{few}
+use Rattle.reaching.proofs.Closing.{own-hit}
+use Rattle.reaching.proofs.own_free.Given as goal
+
+abbrev pub invariant-loop-i : goal.invariant-loop-i
+invariant-loop-i l = (l.i ≤ l.count) × (l.count ≤ 8) × (length l.row ≡ 8)
+
+abbrev pub decreases-loop-i : goal.decreases-loop-i
+decreases-loop-i l = l.count - l.i

@@ -1,0 +1,14 @@
+use mathlib.Core.Path.{◌≡◌}
+use Prim.Native.Nat.{◌-◌, ◌≤◌, ◌<◌}
+use native.Mathlib.Omega.{arith}
+use lib.ListN.{length, take}
+use Rattle.rules.proofs.Fronts.{take_more}
+use Rattle.reaching.specs.Queue.{Visited}
+use Rattle.reaching.proofs.Visiting.{none, both}
+use Rattle.reaching.proofs.visit_row.Given as goal
+
+abbrev pub invariant-loop-i : goal.invariant-loop-i
+invariant-loop-i l = (l.i ≤ l.count) × (length l.row ≡ 8) × Visited l.n l.initial.work l.tail (take l.i l.row) l.work l.end
+
+abbrev pub decreases-loop-i : goal.decreases-loop-i
+decreases-loop-i l = l.count - l.i

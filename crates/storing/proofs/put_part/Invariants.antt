@@ -1,0 +1,14 @@
+use mathlib.Core.Path.{◌≡◌, sym, ◌∙◌}
+use Prim.Native.Nat.{◌+◌, ◌≤◌, ◌-◌}
+use native.Mathlib.Nat.{add-zero}
+use native.Mathlib.Omega.{arith}
+use lib.ListN.{length, drop, length-set}
+use lib.Seq.{sets}
+use Rattle.storing.proofs.Stores.{sets_more, sets-out}
+use Rattle.storing.proofs.put_part.Given as goal
+
+abbrev pub invariant-loop-k : goal.invariant-loop-k
+invariant-loop-k l = (l.k ≤ 11) × (length l.board ≡ length l.initial.board) × (length l.vs ≡ 11) × (sets l.board (l.at + l.k) (drop l.k l.vs) ≡ sets l.initial.board l.at l.vs)
+
+abbrev pub decreases-loop-k : goal.decreases-loop-k
+decreases-loop-k l = 11 - l.k
