@@ -1,0 +1,14 @@
+use mathlib.Core.Path.{◌≡◌, sym, ap, ◌∙◌}
+use Prim.Native.Nat.{ℕ, ◌+◌, ◌-◌, ◌≤◌}
+use native.Mathlib.Nat.{sub-zero}
+use native.Mathlib.Omega.{arith}
+use Rattle.rules.specs.Calls.{find_from}
+use Rattle.checking.specs.Slots.{FourLack}
+use Rattle.checking.proofs.Looking.{after, four-missed}
+use Rattle.checking.proofs.finding.find_fast.Given as goal
+
+abbrev pub invariant-loop-past : goal.invariant-loop-past
+invariant-loop-past l = (l.past ≤ l.n) × (after l.board l.k l.n l.past ≡ find_from l.board l.k l.n 1)
+
+abbrev pub decreases-loop-past : goal.decreases-loop-past
+decreases-loop-past l = l.n - l.past
