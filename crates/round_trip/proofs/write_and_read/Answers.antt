@@ -19,18 +19,18 @@ pub slice_bounds-read_line-end : goal.slice_bounds-read_line-end
 slice_bounds-read_line-end c = fits c
 
 pub slice_bounds-read_line-end-2 : goal.slice_bounds-read_line-end-2
-slice_bounds-read_line-end-2 c = sym (length-take-le c.before-feed.result c.write-order.new.0 (fits c))
+slice_bounds-read_line-end-2 c = sym (length-take-le c.before_feed-end.result c.write_order-wrote.new.buffer (fits c))
 
 pub returns : goal.returns
 returns c =
-    let a = c.before.args in
-    let buffer' = c.write-order.new.0 in
-    let bytes : c.before-feed.result ≡ bytes_before c.write-order.result = c.before-feed.ensures in
-    let there : take c.before-feed.result buffer' ≡ written_line (written a.number a.count a.row a.buffer.now) =
-    ap (λ (n : ℕ). take n buffer') bytes ∙ line-there a.number a.count a.row a.buffer.now c.write-order.result buffer' c.write-order.ensures in
+    let a = c.args in
+    let buffer' = c.write_order-wrote.new.buffer in
+    let bytes : c.before_feed-end.result ≡ bytes_before c.write_order-wrote.result = c.before_feed-end.ensures in
+    let there : take c.before_feed-end.result buffer' ≡ written_line (written a.number a.count a.row a.buffer.now) =
+    ap (λ (n : ℕ). take n buffer') bytes ∙ line-there a.number a.count a.row a.buffer.now c.write_order-wrote.result buffer' c.write_order-wrote.ensures in
     let read = c.read_line-line.ensures ∙ ap line_of there in
     record {
-      wrote = c.write-order.ensures;
+      wrote = c.write_order-wrote.ensures;
       read = read;
       back = λ e. read ∙ read-order a.number a.count a.row a.buffer.now (omega arith) e;
     }
