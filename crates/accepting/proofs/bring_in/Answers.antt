@@ -6,15 +6,15 @@ use Rattle.accepting.proofs.bring_in.Goals as goal
 pub returns-in-NoRoom : goal.returns-in-NoRoom
 returns-in-NoRoom c =
     let a = c.args in
-    said a.board.now a.work.now (carried a.x) c.size_of-n.result c.size_of-n.ensures c.reach-r.result c.reach-r.new.1.1.1.0 c.reach-r.ensures _ c.enum_told-1.given.1
+    said a.board.now a.work.now (carried a.x) c.size_of-n.result c.size_of-n.ensures c.reach-r.result c.reach-r.new.out c.reach-r.ensures _ c.in-NoRoom.is
 
 pub returns-in-Full : goal.returns-in-Full
 returns-in-Full c =
     let a = c.args in
-    said a.board.now a.work.now (carried a.x) c.size_of-n.result c.size_of-n.ensures c.reach-r.result c.reach-r.new.1.1.1.0 c.reach-r.ensures _ c.r-1.given.1
+    said a.board.now a.work.now (carried a.x) c.size_of-n.result c.size_of-n.ensures c.reach-r.result c.reach-r.new.out c.reach-r.ensures _ c.in-Full.is
 
 pub returns-in-Free : goal.returns-in-Free
 returns-in-Free c =
     let a = c.args in
-    c.seat.ensures c.reach-r.new.1.1.1.0
-    ∙ said a.board.now a.work.now (carried a.x) c.size_of-n.result c.size_of-n.ensures c.reach-r.result c.reach-r.new.1.1.1.0 c.reach-r.ensures _ c.enum_told-in-Free-1.given.1
+    c.seat.ensures c.reach-r.new.out
+    ∙ said a.board.now a.work.now (carried a.x) c.size_of-n.result c.size_of-n.ensures c.reach-r.result c.reach-r.new.out c.reach-r.ensures _ c.in-Free.is

@@ -23,7 +23,7 @@ decides c =
     let a = c.args in
     let w = a.board.now in
     let last : List Check = (11, is_held a.number w) ∷ [] in
-    let pass : 0 ≡ first (order_checks (size w) a.number a.count a.row []) = sym (ap gate_number c.enum_told-1.given.1) ∙ judged c in
+    let pass : 0 ≡ first (order_checks (size w) a.number a.count a.row []) = sym (ap gate_number c.in-Passed.is) ∙ judged c in
     let slot : c.find.result ≡ slot_of a.number w = c.find.ensures ∙ ap (λ (n : ℕ). find_from w a.number n 1) c.size_of-n.ensures in
     ap (λ (s : ℕ). cond (not (eqb s 0)) 11 0) slot ∙ ap (λ (b : Bool). cond b 11 0) (sym (held_found a.number w))
     ∙ sym (fine (size w) a.number a.count a.row pass last)
@@ -43,7 +43,7 @@ decides-2 c =
     let a = c.args in
     let w = a.board.now in
     let last : List Check = (11, is_held a.number w) ∷ [] in
-    let pass : 0 ≡ first (order_checks (size w) a.number a.count a.row []) = sym (ap gate_number c.enum_told-1.given.1) ∙ judged-2 c in
+    let pass : 0 ≡ first (order_checks (size w) a.number a.count a.row []) = sym (ap gate_number c.in-Passed.is) ∙ judged-2 c in
     let slot : c.find.result ≡ slot_of a.number w = c.find.ensures ∙ ap (λ (n : ℕ). find_from w a.number n 1) c.size_of-n.ensures in
     ap (λ (s : ℕ). cond (not (eqb s 0)) 11 0) slot ∙ ap (λ (b : Bool). cond b 11 0) (sym (held_found a.number w))
     ∙ sym (fine (size w) a.number a.count a.row pass last)

@@ -10,9 +10,8 @@ use Rattle.accepting.proofs.take_order.Goals as goal
 
 pub returns-in-Refused : goal.returns-in-Refused
 returns-in-Refused c =
-    let v = c.g-1.given in
     let a = c.args in
-    turned a.number a.count a.row a.board.now a.work.now _ (sym (ap gate_number v.1) ∙ c.gate_order-g.ensures) (λ z. omega (arith, code-some v.0.0))
+    turned a.number a.count a.row a.board.now a.work.now _ c.in-Refused.ensures (λ z. omega (arith, code-some c.in-Refused.r))
 
 eight : (c : goal.After-slice_known-in-Passed-2-1) → length c.args.row ≡ most_choices
 eight c = search rules
@@ -20,5 +19,5 @@ eight c = search rules
 pub returns-in-Passed : goal.returns-in-Passed
 returns-in-Passed c =
     let a = c.args in
-    goes a.number a.count a.row a.board.now a.work.now (sym (ap gate_number c.enum_told-1.given.1) ∙ c.gate_order-g.ensures) (eight c)
+    goes a.number a.count a.row a.board.now a.work.now c.in-Passed.ensures (eight c)
     (said c.bring_in.result c.bring_in.new.board c.bring_in.new.work) c.bring_in.ensures
