@@ -1,6 +1,7 @@
 // The calls, and the comparison of what they answer and leave with what the script says.
 use answers::{count_of, refusal_of};
 use board::{Answer, blocked, check, open_board};
+use std::io;
 use trial_kit::{ask, fill_marks, get, lent, marks_from, note, same, work_cleared};
 
 // Where everything stands among the program's own words, behind the tally: how many board and work words are lent.
@@ -65,11 +66,11 @@ fn work_fault(work: &[u16], own: &[u16]) -> u8 {
     0
 }
 
-pub(crate) fn do_open(board: &mut [u16], own: &mut [u16]) {
+pub(crate) fn do_open(rt: &impl Print, board: &mut [u16], own: &mut [u16]) -> io::Result<()> {
     let b = lent(get(own, LENT, 0) as usize, board);
     let a = open_board(&mut board[..b], get(own, NUMBERS, 0));
     let wrong = answer_fault(a, board, own);
-    note(own, wrong, wrong == 0);
+    note(rt, own, wrong, wrong == 0)
 }
 
 // The call by its letter, with marks in all work words.
@@ -80,18 +81,24 @@ fn call(letter: u16, board: &mut [u16], work: &mut [u16], own: &[u16]) -> Answer
     ask(letter, &mut board[..b], &mut work[..w], own, NUMBERS)
 }
 
-pub(crate) fn do_call(letter: u16, board: &mut [u16], work: &mut [u16], own: &mut [u16]) {
+pub(crate) fn do_call(
+    rt: &impl Print,
+    letter: u16,
+    board: &mut [u16],
+    work: &mut [u16],
+    own: &mut [u16],
+) -> io::Result<()> {
     let a = call(letter, board, work, own);
     let wrong = answer_fault(a, board, own);
     let spoilt = work_fault(work, own);
-    note(own, wrong, wrong == 0);
-    note(own, spoilt, spoilt == 0);
+    note(rt, own, wrong, wrong == 0)?;
+    note(rt, own, spoilt, spoilt == 0)
 }
 
-pub(crate) fn do_check(board: &[u16], own: &mut [u16]) {
+pub(crate) fn do_check(rt: &impl Print, board: &[u16], own: &mut [u16]) -> io::Result<()> {
     let b = lent(get(own, LENT, 0) as usize, board);
     let expected = get(own, EXPECTED, 0) == 1;
-    note(own, b'k', check(&board[..b]) == expected);
+    note(rt, own, b'k', check(&board[..b]) == expected)
 }
 
 // The blocked list of any length asked for is the beginning of the work words, at most all of them.
@@ -104,8 +111,8 @@ fn begins(work: &[u16], own: &[u16]) -> bool {
     marks_from(list, 0)
 }
 
-pub(crate) fn do_blocked(work: &mut [u16], own: &mut [u16]) {
+pub(crate) fn do_blocked(rt: &impl Print, work: &mut [u16], own: &mut [u16]) -> io::Result<()> {
     fill_marks(work);
     let right = begins(work, own);
-    note(own, b's', right);
+    note(rt, own, b's', right)
 }

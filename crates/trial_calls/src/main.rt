@@ -19,15 +19,16 @@
 mod bench;
 mod script;
 
+use std::io;
 use trial_kit::{ALL_TRIED, ALL_WRONG, read_all, say, say_tally};
 
-fn main() {
+fn main(rt: HostRuntime) -> io::Result<()> {
     let mut text = [0u8; 65536];
     let mut board = [0u16; 11300];
     let mut work = [0u16; 13400];
     let mut own = [0u16; 11400];
-    let n = read_all(&mut text);
-    script::run(&text[..n], &mut board, &mut work, &mut own);
-    say(b"all");
-    say_tally(&own, ALL_TRIED, ALL_WRONG);
+    let n = read_all(&rt, &mut text)?;
+    script::run(&rt, &text[..n], &mut board, &mut work, &mut own)?;
+    say(&rt, b"all")?;
+    say_tally(&rt, &own, ALL_TRIED, ALL_WRONG)
 }

@@ -1,5 +1,6 @@
 // The script's lines.
 use crate::bench::{LENT, NUMBERS, WANT, do_blocked, do_call, do_check, do_open};
+use std::io;
 use trial_kit::{
     CASE, copy, count, fill_marks, get, line_end, note, numbers, put, say, slot_word, tell, zero,
 };
@@ -44,7 +45,13 @@ fn slot(own: &mut [u16]) {
 }
 
 // What the lines before a call say of the board. A line that is not understood is wrong.
-fn arrange(letter: u8, most: u16, board: &mut [u16], own: &mut [u16]) {
+fn arrange(
+    rt: &impl Print,
+    letter: u8,
+    most: u16,
+    board: &mut [u16],
+    own: &mut [u16],
+) -> io::Result<()> {
     match letter {
         b'f' => fresh(board, own),
         b'g' => given(most, board, own),
@@ -55,45 +62,65 @@ fn arrange(letter: u8, most: u16, board: &mut [u16], own: &mut [u16]) {
             put(own, WANT, 1, m);
         }
         0 | b'#' => {}
-        _ => note(own, b'?', false),
+        _ => note(rt, own, b'?', false)?,
     }
+    Ok(())
 }
 
-fn command(letter: u8, most: u16, board: &mut [u16], work: &mut [u16], own: &mut [u16]) {
+fn command(
+    rt: &impl Print,
+    letter: u8,
+    most: u16,
+    board: &mut [u16],
+    work: &mut [u16],
+    own: &mut [u16],
+) -> io::Result<()> {
     match letter {
-        b'o' => do_open(board, own),
-        b'a' | b'w' | b'p' => do_call(letter as u16, board, work, own),
-        b'c' => do_check(board, own),
-        b'b' => do_blocked(work, own),
-        _ => arrange(letter, most, board, own),
+        b'o' => do_open(rt, board, own),
+        b'a' | b'w' | b'p' => do_call(rt, letter as u16, board, work, own),
+        b'c' => do_check(rt, board, own),
+        b'b' => do_blocked(rt, work, own),
+        _ => arrange(rt, letter, most, board, own),
     }
 }
 
 // One line.
-fn perform(line: &[u8], board: &mut [u16], work: &mut [u16], own: &mut [u16]) {
+fn perform(
+    rt: &impl Print,
+    line: &[u8],
+    board: &mut [u16],
+    work: &mut [u16],
+    own: &mut [u16],
+) -> io::Result<()> {
     count(own, CASE);
     if line.len() == 0 {
-        return;
+        return Ok(());
     }
     let letter = line[0];
     if letter == b'=' {
-        say(&line[1..]);
-        tell(own);
-        return;
+        say(rt, &line[1..])?;
+        return tell(rt, own);
     }
     zero(own, NUMBERS, 64);
     let c = numbers(line, own, NUMBERS);
-    command(letter, c, board, work, own);
+    command(rt, letter, c, board, work, own)
 }
 
-pub(crate) fn run(text: &[u8], board: &mut [u16], work: &mut [u16], own: &mut [u16]) {
+pub(crate) fn run(
+    rt: &impl Print,
+    text: &[u8],
+    board: &mut [u16],
+    work: &mut [u16],
+    own: &mut [u16],
+) -> io::Result<()> {
     let mut at: usize = 0;
     while at < text.len() {
         let e = line_end(text, at);
         if text.len() <= e {
-            return;
+            return Ok(());
         }
-        perform(&text[at..e], board, work, own);
+        perform(rt, &text[at..e], board, work, own)?;
         at = e + 1;
     }
+    Ok(())
 }

@@ -1,9 +1,13 @@
 -- Words that are read and written at any index, walked as the loops run. Assumes nothing.
-use Rattle.std.specs.Prelude.{Bool, true, false, cond, List, [], ◌∷◌, ℕ, zero, suc, ◌+◌, ◌-◌, ◌*◌, ◌%◌, eqb, length, get_or, set as store}
+use Rattle.std.specs.Prelude.{Bool, true, false, cond, List, [], ◌∷◌, ℕ, zero, suc, ◌+◌, ◌-◌, ◌*◌, ◌%◌, ◌≡◌, ◌≤◌, eqb, length, take, get_or, set as store}
 
 -- the word i places behind `at`; 0 where there is none
 abbrev pub word_at : List ℕ → ℕ → ℕ → ℕ
 word_at w at i = get_or w (at + i) 0
+
+-- the first n of xs can be lent, and are n. The second part follows from the first, and spares a caller's `&xs[..n]` a proof
+abbrev pub IsPrefixLen : ℕ → List ℕ → Type 0
+IsPrefixLen n xs = (n ≤ length xs) × (n ≡ length (take n xs))
 
 abbrev pub put : List ℕ → ℕ → ℕ → ℕ → List ℕ
 put w at i v = store w (at + i) v

@@ -8,8 +8,7 @@ mod tallies;
 mod texts;
 
 ghost use Rattle.std.specs.Prelude.{◌≡◌, ◌+◌, ◌-◌, ◌*◌, min, length};
-ghost use Rattle.io.specs.Counts.{IsPrefixLen};
-ghost use Rattle.trial_kit.specs.Words.{word_at, stores, all, nothing, marks_from, empty, alike, board_size, work_size, cleared};
+ghost use Rattle.trial_kit.specs.Words.{IsPrefixLen, word_at, stores, all, nothing, marks_from, empty, alike, board_size, work_size, cleared};
 ghost use Rattle.trial_kit.specs.Words.{put as stored, mark as mark_of};
 
 pub use asks::{ACCEPT, PRINT, WITHDRAW, ask, row_at};
@@ -50,6 +49,7 @@ fn mark(i: usize) -> u16
     (i % 1000) as u16 + 7000
 }
 
+#[tactic(auto, using(crate::proofs::Walks::stores_next, crate::proofs::Walks::stores_end))]
 pub fn fill_marks(a: &mut [u16])
     ensures { a.new ≡ stores mark_of 0 (length a.old) 0 a.old }
 {
@@ -61,6 +61,7 @@ pub fn fill_marks(a: &mut [u16])
 }
 
 // Each word from index `from` on has its mark.
+#[tactic(auto, using(crate::proofs::Walks::all_next, crate::proofs::Walks::all_end))]
 pub fn marks_from(a: &[u16], from: usize) -> bool
     ensures { result ≡ marks_from a.now from }
 {
@@ -75,6 +76,7 @@ pub fn marks_from(a: &[u16], from: usize) -> bool
 }
 
 // k words behind f go behind t.
+#[tactic(auto, using(crate::proofs::Walks::stores_next, crate::proofs::Walks::stores_end))]
 pub fn copy(from: &[u16], f: usize, to: &mut [u16], t: usize, k: u16)
     ensures { to.new ≡ stores (word_at from.now f) t k 0 to.old }
 {
@@ -86,6 +88,7 @@ pub fn copy(from: &[u16], f: usize, to: &mut [u16], t: usize, k: u16)
 }
 
 // k words behind f are those behind t.
+#[tactic(auto, using(crate::proofs::Walks::all_next, crate::proofs::Walks::all_end))]
 pub fn same(a: &[u16], f: usize, b: &[u16], t: usize, k: u16) -> bool
     ensures { result ≡ all (alike a.now f b.now t) k 0 }
 {
@@ -99,6 +102,7 @@ pub fn same(a: &[u16], f: usize, b: &[u16], t: usize, k: u16) -> bool
     true
 }
 
+#[tactic(auto, using(crate::proofs::Walks::stores_next, crate::proofs::Walks::stores_end))]
 pub fn zero(a: &mut [u16], at: usize, k: u16)
     ensures { a.new ≡ stores nothing at k 0 a.old }
 {
@@ -110,6 +114,7 @@ pub fn zero(a: &mut [u16], at: usize, k: u16)
 }
 
 // No word from index `from` up to `to` is other than 0.
+#[tactic(auto, using(crate::proofs::Walks::all_next, crate::proofs::Walks::all_end))]
 fn zeros(a: &[u16], from: usize, to: usize) -> bool
     ensures { result ≡ all (empty a.now) (to - from) from }
 {
@@ -123,7 +128,7 @@ fn zeros(a: &[u16], from: usize, to: usize) -> bool
     true
 }
 
-// How many of the words are lent where `most` are wanted. `Counts` is what lending the part needs.
+// How many of the words are lent where `most` are wanted. `IsPrefixLen` is what lending the part needs.
 pub fn lent(most: usize, a: &[u16]) -> usize
     ensures prefix_len { IsPrefixLen result a.now }
     ensures value { result ≡ min most (length a.now) }

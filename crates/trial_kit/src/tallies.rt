@@ -4,6 +4,7 @@ ghost use Rattle.trial_kit.specs.Tallies.{wide, put_wide, counted, noted, carrie
 
 use crate::texts::{say_tally, say_wrong};
 use crate::{get, put};
+use std::io;
 
 // The comparisons of a group that were tried and that were wrong, the case at hand, those of all groups, and the seed.
 const TRIED: usize = 0;
@@ -33,6 +34,7 @@ pub fn put_wide(a: &mut [u16], i: usize, v: u64)
     put(a, i, 1, (v / 65536 % 65536) as u16);
 }
 
+#[tactic(auto, unfolding(crate::specs::Tallies::counted))]
 pub fn count(a: &mut [u16], i: usize)
     ensures { a.new ≡ counted a.old i }
 {
@@ -40,16 +42,16 @@ pub fn count(a: &mut [u16], i: usize)
     put_wide(a, i, old + 1);
 }
 
-// One comparison. One that is wrong is named by a letter, with the case.
-pub fn note(a: &mut [u16], what: u8, good: bool)
+// One comparison. One that is wrong is named by a letter, with the case. It is counted even where it can't be said.
+pub fn note(rt: &impl Print, a: &mut [u16], what: u8, good: bool) -> io::Result<()>
     ensures { a.new ≡ noted good 0 a.old }
 {
     count(a, 0);
     if good {
-        return;
+        return Ok(());
     }
     count(a, WRONG);
-    say_wrong(a, what);
+    say_wrong(rt, a, what)
 }
 
 // The count at `from` is added to that at `to`, and begins anew.
@@ -62,13 +64,14 @@ fn carry(a: &mut [u16], from: usize, to: usize)
     put_wide(a, from, 0);
 }
 
-// A group is over: what it came to is said and added to that of all.
-pub fn tell(a: &mut [u16])
+// A group is over: what it came to is said and added to that of all, even where it can't be said.
+pub fn tell(rt: &impl Print, a: &mut [u16]) -> io::Result<()>
     ensures { a.new ≡ told a.old }
 {
-    say_tally(a, TRIED, WRONG);
+    let said = say_tally(rt, a, TRIED, WRONG);
     carry(a, TRIED, ALL_TRIED);
     carry(a, WRONG, ALL_WRONG);
+    said
 }
 
 // A number below k, out of the seed; 0 where k is 0.

@@ -1,24 +1,35 @@
 // Standard input in lines, the numbers of a line, and what is printed.
 ghost use Rattle.std.specs.Prelude.{◌≡◌, ◌-◌, ◌≤◌, max, length, get_or};
-ghost use Rattle.io.specs.Counts.{IsPrefixLen};
+ghost use Rattle.std.specs.Io.{ReadsAtMost};
 ghost use Rattle.trial_kit.specs.Texts.{line_end, is_digit, next_place, after_byte, places, spelt};
 ghost use Rattle.trial_kit.specs.Texts.{longer as longer_by};
 
 use crate::tallies::{CASE, wide_at};
 use crate::{get, put};
-use libc::{STDIN_FILENO, STDOUT_FILENO};
+use std::io;
+use std::io::Read;
 
 // Where a line's numbers go once it says `>`.
 const EXPECTED: u16 = 32;
 
-// All of standard input, as far as there is room: how many bytes. `Counts` is what lending them needs.
-pub fn read_all(text: &mut [u8]) -> usize
-    ensures { IsPrefixLen result text.new }
+// All of standard input, as far as there is room: how many bytes. `IsPrefixLen`, of which `ReadsAtMost` is made, is what lending them needs.
+pub fn read_all(rt: &impl Input, text: &mut [u8]) -> io::Result<usize>
+    ensures { ReadsAtMost result text.new }
 {
-    io::read_full(STDIN_FILENO, text)
+    let mut input = rt.reader();
+    let mut done: usize = 0;
+    while done < text.len() {
+        let n = input.read(&mut text[done..])?;
+        if n == 0 {
+            break;
+        }
+        done += n;
+    }
+    Ok(done)
 }
 
 // The index of the first line feed at or after `from`, or the length where there is none.
+#[tactic(auto, using(crate::proofs::Bytes::feed_next, crate::proofs::Bytes::feed_over, crate::proofs::Bytes::feed_end))]
 pub fn line_end(s: &[u8], from: usize) -> usize
     ensures value { result ≡ line_end s.now from }
     ensures lower_bound { (from ≤ result) × (result ≤ max from (length s.now)) }
@@ -67,6 +78,7 @@ fn longer(value: u16, b: u8) -> u16
 }
 
 // Where the next digit goes after byte i. A number ends where no digit follows; `>` leads to what is expected.
+#[tactic(auto, unfolding(crate::specs::Texts::next_place))]
 fn next_place(s: &[u8], i: usize, at: u16) -> u16
     ensures { result ≡ next_place s.now i at }
 {
@@ -91,6 +103,7 @@ fn next_place(s: &[u8], i: usize, at: u16) -> u16
 }
 
 // Byte i of a line, if it is a digit, goes to the number at place `at`.
+#[tactic(auto, unfolding(crate::specs::Texts::after_byte))]
 fn take_byte(s: &[u8], i: usize, out: &mut [u16], base: usize, at: u16)
     ensures { out.new ≡ after_byte s.now i base at out.old }
 {
@@ -102,6 +115,7 @@ fn take_byte(s: &[u8], i: usize, out: &mut [u16], base: usize, at: u16)
 }
 
 // The numbers of a line go behind `base`, where there are zeros: how many there are, or the place behind the last.
+#[tactic(auto, using(crate::proofs::Bytes::places_next, crate::proofs::Bytes::places_end, crate::proofs::Bytes::spelt_next, crate::proofs::Bytes::spelt_end))]
 pub fn numbers(s: &[u8], out: &mut [u16], base: usize) -> u16
     ensures value { result ≡ places s.now (length s.now) 0 0 }
     ensures out_after { out.new ≡ spelt s.now base (length s.now) 0 0 out.old }
@@ -116,33 +130,32 @@ pub fn numbers(s: &[u8], out: &mut [u16], base: usize) -> u16
     at
 }
 
-pub fn say(text: &[u8]) {
-    io::write_all(STDOUT_FILENO, text);
+pub fn say(rt: &impl Print, text: &[u8]) -> io::Result<()> {
+    rt.write_all(text)
 }
 
 // The first n bytes, or all of them.
-pub fn say_front(text: &[u8], n: usize) {
+pub fn say_front(rt: &impl Print, text: &[u8], n: usize) -> io::Result<()> {
     if n < text.len() {
-        say(&text[..n]);
-        return;
+        return say(rt, &text[..n]);
     }
-    say(text);
+    say(rt, text)
 }
 
 // The number after what it is.
-pub fn say_count(what: &[u8], n: u64) {
-    io::write_all(STDOUT_FILENO, what);
-    io::print_decimal(STDOUT_FILENO, n);
+pub fn say_count(rt: &impl Print, what: &[u8], n: u64) -> io::Result<()> {
+    rt.write_all(what)?;
+    print!(rt; "{n}")
 }
 
 // The comparisons that were tried and that were wrong, as they are counted.
-pub fn say_tally(a: &[u16], tried: usize, wrong: usize) {
-    say_count(b": tried ", wide_at(a, tried));
-    say_count(b", wrong ", wide_at(a, wrong));
-    say(b"\n");
+pub fn say_tally(rt: &impl Print, a: &[u16], tried: usize, wrong: usize) -> io::Result<()> {
+    say_count(rt, b": tried ", wide_at(a, tried))?;
+    say_count(rt, b", wrong ", wide_at(a, wrong))?;
+    say(rt, b"\n")
 }
 
-pub(crate) fn say_wrong(a: &[u16], what: u8) {
-    say_count(b" [case ", wide_at(a, CASE));
-    say(&[b':', b' ', what, b']']);
+pub(crate) fn say_wrong(rt: &impl Print, a: &[u16], what: u8) -> io::Result<()> {
+    say_count(rt, b" [case ", wide_at(a, CASE))?;
+    say(rt, &[b':', b' ', what, b']'])
 }

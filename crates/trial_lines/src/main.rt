@@ -4,11 +4,12 @@
 mod runs;
 mod writes;
 
+use std::io;
 use trial_kit::read_all;
 
-fn main() {
+fn main(rt: HostRuntime) -> io::Result<()> {
     let mut text = [0u8; 8192];
-    let n = read_all(&mut text);
-    writes::run();
-    runs::run_all(&text[..n]);
+    let n = read_all(&rt, &mut text)?;
+    writes::run(&rt)?;
+    runs::run_all(&rt, &text[..n])
 }

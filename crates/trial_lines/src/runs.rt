@@ -4,6 +4,7 @@ ghost use Rattle.std.specs.Prelude.{◌+◌, ◌≤◌, ◌<◌};
 use answers::{Tally, new_day};
 use handling::handle;
 use running::run_block;
+use std::io;
 use trial_kit::{fill_marks, line_end, say, say_front};
 use writing::{close, put_reply};
 
@@ -44,34 +45,55 @@ fn begins(at: usize, e: usize, all: usize) -> usize
 }
 
 // One line, handled and answered.
-fn answer(line: &[u8], board: &mut [u16], work: &mut [u16], t: Tally, out: &mut [u8]) -> Tally {
+fn answer(
+    rt: &impl Print,
+    line: &[u8],
+    board: &mut [u16],
+    work: &mut [u16],
+    t: Tally,
+    out: &mut [u8],
+) -> io::Result<Tally> {
     let h = handle(line, board, work, t);
     let reply = h.reply;
     let n = put_reply(reply, board, work, out, 0);
-    say_front(out, n);
-    h.tally
+    say_front(rt, out, n)?;
+    Ok(h.tally)
 }
 
 // Each line by itself.
-fn run_lines(input: &[u8], board: &mut [u16], work: &mut [u16], out: &mut [u8]) -> Tally {
+fn run_lines(
+    rt: &impl Print,
+    input: &[u8],
+    board: &mut [u16],
+    work: &mut [u16],
+    out: &mut [u8],
+) -> io::Result<Tally> {
     let mut t = new_day();
     let mut at: usize = 0;
     while at < input.len() {
         let e = line_end(input, at);
-        t = answer(&input[begins(at, e, input.len())..e], board, work, t, out);
+        t = answer(
+            rt,
+            &input[begins(at, e, input.len())..e],
+            board,
+            work,
+            t,
+            out,
+        )?;
         at = e + 1;
     }
-    t
+    Ok(t)
 }
 
 // Each block is shown what the one before it left, and one more piece. Where there is none and it uses nothing, the run is over.
 fn run_pieces(
+    rt: &impl Print,
     input: &[u8],
     piece: usize,
     board: &mut [u16],
     work: &mut [u16],
     out: &mut [u8],
-) -> Tally
+) -> io::Result<Tally>
     requires { 0 < piece }
 {
     let mut t = new_day();
@@ -80,11 +102,11 @@ fn run_pieces(
     loop {
         let left = input.len() - end;
         let b = run_block(&input[at..end], left == 0, board, work, t, out);
-        say_front(out, b.written);
+        say_front(rt, out, b.written)?;
         let u = b.tally;
         let used = b.consumed;
         if used + left == 0 {
-            return u;
+            return Ok(u);
         }
         t = u;
         at += used;
@@ -93,26 +115,26 @@ fn run_pieces(
 }
 
 // A whole run: no board yet, and work words that a call must clear.
-fn run(input: &[u8], piece: usize) {
+fn run(rt: &impl Print, input: &[u8], piece: usize) -> io::Result<()> {
     let mut board = [0u16; BOARD];
     let mut work = [0u16; WORK];
     let mut out = [0u8; ANSWERS];
     fill_marks(&mut work);
     let t = if piece == LINES {
-        run_lines(input, &mut board, &mut work, &mut out)
+        run_lines(rt, input, &mut board, &mut work, &mut out)?
     } else {
-        run_pieces(input, piece, &mut board, &mut work, &mut out)
+        run_pieces(rt, input, piece, &mut board, &mut work, &mut out)?
     };
     let mut last = [0u8; 64];
     let n = close(t, &mut last);
-    say_front(&last, n);
+    say_front(rt, &last, n)
 }
 
-pub(crate) fn run_all(input: &[u8]) {
-    say(b"line by line\n");
-    run(input, LINES);
-    say(b"in pieces of 13 bytes\n");
-    run(input, SMALL);
-    say(b"in pieces of 997 bytes\n");
-    run(input, LARGE);
+pub(crate) fn run_all(rt: &impl Print, input: &[u8]) -> io::Result<()> {
+    say(rt, b"line by line\n")?;
+    run(rt, input, LINES)?;
+    say(rt, b"in pieces of 13 bytes\n")?;
+    run(rt, input, SMALL)?;
+    say(rt, b"in pieces of 997 bytes\n")?;
+    run(rt, input, LARGE)
 }

@@ -4,6 +4,7 @@ ghost use Rattle.std.specs.Prelude.{◌≤◌, ◌<◌};
 use answers::refusal_number;
 use reading::{LineOrder, answer_letter};
 use round_trip::{RoundTrip, read_and_write, write_and_read};
+use std::io;
 use trial_kit::{CASE, count, note, same, say, tell};
 use writing::{Wrote, write_order};
 
@@ -202,20 +203,20 @@ fn refusals(o: LineOrder) -> bool
     refused(o, 9, ROOM, BAD_COUNT)
 }
 
-fn one_order(own: &mut [u16], t: u16) {
+fn one_order(rt: &impl Print, own: &mut [u16], t: u16) -> io::Result<()> {
     count(own, CASE);
     let o = order(t);
-    note(own, b'w', written(o));
-    note(own, b'n', refusals(o));
+    note(rt, own, b'w', written(o))?;
+    note(rt, own, b'n', refusals(o))
 }
 
-pub(crate) fn run() {
+pub(crate) fn run(rt: &impl Print) -> io::Result<()> {
     let mut own = [0u16; 16];
     let mut t: u16 = 0;
     while t < CASES {
-        one_order(&mut own, t);
+        one_order(rt, &mut own, t)?;
         t += 1;
     }
-    say(b"orders written and read back");
-    tell(&mut own);
+    say(rt, b"orders written and read back")?;
+    tell(rt, &mut own)
 }

@@ -7,6 +7,7 @@ use crate::prints::{
 };
 use answers::{count_of, refusal_of};
 use board::{Answer, blocked, check};
+use std::io;
 use trial_kit::{
     ACCEPT, PRINT, WITHDRAW, board_size, count, get, marks_from, note, slot_word, work_cleared,
 };
@@ -147,6 +148,7 @@ fn kind(p: Plan, c: u64, listed: u16) -> usize {
 
 // The moves after it.
 pub(crate) fn judge(
+    rt: &impl Print,
     own: &mut [u16],
     board: &[u16],
     work: &[u16],
@@ -154,13 +156,13 @@ pub(crate) fn judge(
     p: Plan,
     a: Answer,
     before: u64,
-) -> u64 {
+) -> io::Result<u64> {
     let c = count_of(a);
     let moves = moves_after(p, before, c);
     let wrong = fault(own, board, work, n, p, c, moves);
     let listed = get(own, LIST, 0);
-    note(own, b'r', refusal_of(a) == p.refusal);
-    note(own, wrong, wrong == 0);
+    note(rt, own, b'r', refusal_of(a) == p.refusal)?;
+    note(rt, own, wrong, wrong == 0)?;
     count(own, kind(p, c, listed));
-    moves
+    Ok(moves)
 }

@@ -12,6 +12,7 @@ use board::{Answer, open_board};
 use judge::judge;
 use plan::next_plan;
 use prints::{COUNTS, COUNTS_END, ORDER, orders_print, words};
+use std::io;
 use trial_kit::{
     CASE, SEED, ask, count, draw, fill_marks, get, note, put, put_wide, say, say_count, slot_word,
     tell, wide_at,
@@ -67,36 +68,51 @@ fn lowered(n: u16, moves: u64, board: &mut [u16], own: &mut [u16]) -> u64 {
 }
 
 // Before call t: from time to time a board is opened anew.
-fn start(t: u32, n: u16, moves: u64, board: &mut [u16], own: &mut [u16]) -> u64 {
+fn start(
+    rt: &impl Print,
+    t: u32,
+    n: u16,
+    moves: u64,
+    board: &mut [u16],
+    own: &mut [u16],
+) -> io::Result<u64> {
     count(own, CASE);
     if t % CALLS % (5 * (n as u32) + 40) != 0 {
-        return lowered(n, moves, board, own);
+        return Ok(lowered(n, moves, board, own));
     }
     fill_marks(board);
     let a = open_board(board, n);
-    note(own, b'n', opened(board, n, a));
-    0
+    note(rt, own, b'n', opened(board, n, a))?;
+    Ok(0)
 }
 
 // Call t, with marks in all work words.
-fn turn(t: u32, moves: u64, board: &mut [u16], work: &mut [u16], own: &mut [u16]) -> u64 {
+fn turn(
+    rt: &impl Print,
+    t: u32,
+    moves: u64,
+    board: &mut [u16],
+    work: &mut [u16],
+    own: &mut [u16],
+) -> io::Result<u64> {
     let n = size(t);
-    let before = start(t, n, moves, board, own);
+    let before = start(rt, t, n, moves, board, own)?;
     fill_marks(work);
     let p = next_plan(own, board, n);
     let a = ask(p.letter, board, work, own, ORDER);
-    judge(own, board, work, n, p, a, before)
+    judge(rt, own, board, work, n, p, a, before)
 }
 
-fn say_counts(own: &[u16]) {
+fn say_counts(rt: &impl Print, own: &[u16]) -> io::Result<()> {
     let mut i = COUNTS;
     while i < COUNTS_END {
-        say_count(b" ", wide_at(own, i));
+        say_count(rt, b" ", wide_at(own, i))?;
         i += 2;
     }
+    Ok(())
 }
 
-fn main() {
+fn main(rt: HostRuntime) -> io::Result<()> {
     let mut board = [0u16; 11300];
     let mut work = [0u16; 13400];
     let mut own = [0u16; 2300];
@@ -104,12 +120,13 @@ fn main() {
     let mut t: u32 = 0;
     put_wide(&mut own, SEED, 88172645);
     while t < 9 * CALLS {
-        moves = turn(t, moves, &mut board, &mut work, &mut own);
+        moves = turn(&rt, t, moves, &mut board, &mut work, &mut own)?;
         t += 1;
     }
     say(
+        &rt,
         b"prints, accepted, accepted with others moved, withdrawn, blocked, blocked by more than its list, held already, not held:",
-    );
-    say_counts(&own);
-    tell(&mut own);
+    )?;
+    say_counts(&rt, &own)?;
+    tell(&rt, &mut own)
 }

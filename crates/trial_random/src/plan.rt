@@ -5,7 +5,7 @@ use trial_kit::{ACCEPT, PRINT, WITHDRAW, draw, get, put, slot_word, zero};
 
 // The call's letter and the refusal that it must answer; how many orders the board must hold after it, and their
 // fingerprint, labels left out; and the fingerprint of all board words before it.
-#[derive(Drop)]
+#[derive(Clone, Copy)]
 pub struct Plan {
     pub letter: u16,
     pub refusal: u16,
