@@ -7,11 +7,10 @@ use Rattle.board.proofs.open_board.Goals as goal
 
 pub returns-in-Refused : goal.returns-in-Refused
 returns-in-Refused c =
-    let v = c.gate-1.given in
     let a = c.args in
-    λ work. opening-stops a.n a.board.now work _ (sym (ap gate_number v.1) ∙ c.open_gate-gate.ensures) (λ z. omega (arith, code-some v.0.0))
+    λ work. opening-stops a.n a.board.now work _ c.in-Refused.ensures (λ z. omega (arith, code-some c.in-Refused.r))
 
 pub returns-in-Passed : goal.returns-in-Passed
 returns-in-Passed c =
     let a = c.args in
-    λ work. opening-goes a.n a.board.now work (sym (ap gate_number c.enum_told-1.given.1) ∙ c.open_gate-gate.ensures) c.put_opened.new.board c.put_opened.ensures
+    λ work. opening-goes a.n a.board.now work c.in-Passed.ensures c.put_opened.new.board c.put_opened.ensures

@@ -8,4 +8,4 @@ use Rattle.board.proofs.past_gate.Goals as goal
 pub returns-in-Open : goal.returns-in-Open
 returns-in-Open c =
     let a = c.args in
-    opens a.q.number a.board.now a.work.now c.put_opened.new.board c.put_opened.ensures ∙ ap (λ (k : Ask). past_gate (call_by k a.q.number a.q.count a.q.row) a.board.now a.work.now) (sym c.enum_told-1.given.1)
+    opens a.q.number a.board.now a.work.now c.put_opened.new.board c.put_opened.ensures ∙ ap (λ (k : Ask). past_gate (call_by k a.q.number a.q.count a.q.row) a.board.now a.work.now) (sym c.in-Open.is)

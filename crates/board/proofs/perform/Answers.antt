@@ -12,12 +12,11 @@ use Rattle.board.proofs.perform.Goals as goal
 
 pub returns-in-Refused : goal.returns-in-Refused
 returns-in-Refused c =
-    let v = c.gate-1.given in
     let a = c.args in
-    let is : code v.0.0 ≡ gate_of (known_of a.known) (call_for a.q) a.board.now = sym (ap gate_number v.1) ∙ c.gate_for-gate.ensures in
+    let is : code c.in-Refused.r ≡ gate_of (known_of a.known) (call_for a.q) a.board.now = c.in-Refused.ensures in
     record {
-      answer = stopped (known_of a.known) (call_for a.q) a.board.now a.work.now _ is (λ z. omega (arith, code-some v.0.0));
-      known = unchanged (known_of a.known) (call_for a.q) a.board.now a.work.now _ is (λ z. omega (arith, code-some v.0.0));
+      answer = stopped (known_of a.known) (call_for a.q) a.board.now a.work.now _ is (λ z. omega (arith, code-some c.in-Refused.r));
+      known = unchanged (known_of a.known) (call_for a.q) a.board.now a.work.now _ is (λ z. omega (arith, code-some c.in-Refused.r));
     }
 
 -- the work words are as long as they were
@@ -28,7 +27,7 @@ long c = search rules
 pub returns-in-Passed : goal.returns-in-Passed
 returns-in-Passed c =
     let a = c.args in
-    let pass : 0 ≡ gate_of (known_of a.known) (call_for a.q) a.board.now = sym (ap gate_number c.enum_told-1.given.1) ∙ c.gate_for-gate.ensures in
+    let pass : 0 ≡ gate_of (known_of a.known) (call_for a.q) a.board.now = c.in-Passed.ensures in
     let answered = said c.past_gate-answer.result c.past_gate-answer.new.board c.past_gate-answer.new.work in
     record {
       answer = passed (known_of a.known) (call_for a.q) a.board.now a.work.now pass c.few_for.result c.few_for.ensures c.zero_front.new.work c.zero_front.ensures

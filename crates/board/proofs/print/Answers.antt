@@ -10,16 +10,15 @@ use Rattle.board.proofs.print.Goals as goal
 
 pub returns-in-Refused : goal.returns-in-Refused
 returns-in-Refused c =
-    let v = c.gate-1.given in
     let a = c.args in
     let k = known_of c.assess-known.result in
-    stopped k print a.board.now a.work.now _ (sym (ap gate_number v.1)) (λ z. omega (arith, code-some v.0.0))
+    stopped k print a.board.now a.work.now _ (sym (ap gate_number c.in-Refused.is)) (λ z. omega (arith, code-some c.in-Refused.r))
     ∙ performs k a.board.now a.work.now c.assess-known.ensures print
 
 pub returns-in-Passed : goal.returns-in-Passed
 returns-in-Passed c =
     let a = c.args in
     let k = known_of c.assess-known.result in
-    passed k print a.board.now a.work.now (sym (ap gate_number c.enum_told-1.given.1)) c.assess-known.result.few refl c.zero_front.new.work c.zero_front.ensures
+    passed k print a.board.now a.work.now (sym (ap gate_number c.in-Passed.is)) c.assess-known.result.few refl c.zero_front.new.work c.zero_front.ensures
     (said c.slots_counted.result a.board.now c.zero_front.new.work) (c.slots_counted.ensures c.zero_front.new.work)
     ∙ performs k a.board.now a.work.now c.assess-known.ensures print
