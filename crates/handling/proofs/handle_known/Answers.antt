@@ -12,13 +12,12 @@ use Rattle.handling.proofs.handle_known.Goals as goal
 
 pub returns-in-Refused : goal.returns-in-Refused
 returns-in-Refused c =
-    let v = c.gate-1.given in
     let a = c.args in
     let k = known_of a.known in
     let s = state_of a.board.now a.work.now a.tally in
     let is = c.read_line-l.ensures in
-    let gate : code v.0.0 ≡ kind_refusal c.read_line-l.result.kind = ap gate_number (sym v.1 ∙ c.gate_of-gate.ensures) in
-    let some : kind_refusal c.read_line-l.result.kind ≡ 0 → ⊥ = λ z. omega (arith, code-some v.0.0, gate) in
+    let gate : code c.in-Refused.why ≡ kind_refusal c.read_line-l.result.kind = ap gate_number c.in-Refused.ensures in
+    let some : kind_refusal c.read_line-l.result.kind ≡ 0 → ⊥ = λ z. omega (arith, code-some c.in-Refused.why, gate) in
     let t = c.not_read.ensures in
     record {
       handled = unread-as a.line.now c.read_line-l.result is k s _ some (t.0 a.board.now a.work.now ∙ ap (λ (n : ℕ). unread n s) gate);
@@ -30,7 +29,7 @@ returns-in-Passed c =
     let a = c.args in
     let k = known_of a.known in
     let s = state_of a.board.now a.work.now a.tally in
-    let taken : kind_refusal c.read_line-l.result.kind ≡ 0 = sym (ap gate_number (sym c.enum_told-1.given.1 ∙ c.gate_of-gate.ensures)) in
+    let taken : kind_refusal c.read_line-l.result.kind ≡ 0 = sym (ap gate_number c.in-Passed.ensures) in
     let read = c.read_line-l.result in
     record {
       handled = read_as a.line.now read c.read_line-l.ensures taken k s _ c.asked_line.ensures.handled;
