@@ -43,7 +43,7 @@ fn work_off<W: Write>(
 {
     let mut at: usize = 0;
     let mut t = tally;
-    loop {
+    'rooms: loop {
         let b = run_block(&input[at..], ended, board, work, t, out);
         let written = b.written;
         drain(output, out, written);
@@ -62,11 +62,7 @@ fn move_front(buf: &mut [u8], at: usize, n: usize)
     requires { at + n ≤ length buf.old }
     ensures { take n buf.new ≡ take n (drop at buf.old) }
 {
-    let mut i: usize = 0;
-    while i < n {
-        buf[i] = buf[at + i];
-        i += 1;
-    }
+    buf.copy_within(at..at + n, 0);
 }
 
 // One read behind the bytes that are held: the place after what it brought. A read that fails brings nothing, as at the input's end.

@@ -4,8 +4,8 @@ use Rattle.answers.specs.Values.{state_of}
 use Rattle.serving.proofs.Steps.{Going}
 use Rattle.serving.proofs.work_off.Given as goal
 
-abbrev pub invariant-loop-u : goal.invariant-loop-u
-invariant-loop-u g l = Going l.input l.ended (state_of l.fn.board l.fn.work l.fn.tally) l.at (state_of l.board l.work l.t)
+abbrev pub invariant-rooms : goal.invariant-rooms
+invariant-rooms g l = Going l.input l.ended (state_of l.fn.board l.fn.work l.fn.tally) l.at (state_of l.board l.work l.t)
 
-abbrev pub decreases-loop-u : goal.decreases-loop-u
-decreases-loop-u g l = length l.input - l.at
+abbrev pub decreases-rooms : goal.decreases-rooms
+decreases-rooms g l = length l.input - l.at
