@@ -1,13 +1,11 @@
--- The program's loops: blocks one after another, bytes moved to the front, reads one after another.
+-- The program's loops: blocks one after another, a read with what waited before it, reads one after another.
 use Prim.Native.Nat.{ℕ, zero, suc, ◌+◌, ◌-◌, ◌≤◌, ◌<◌}
 use mathlib.Core.Path.{◌≡◌, refl, sym, ap, subst, ◌∙◌}
 use mathlib.Core.List.{List, [], ◌∷◌, ◌++◌, append_assoc, append-nil}
 use mathlib.Core.Bool.{Bool, true, false, false≢true}
 use native.Mathlib.Omega.{arith}
-use native.Mathlib.Numerals.{add-one}
-use native.Mathlib.Nat.{add_comm}
-use lib.ListN.{length, get_or, take, drop, set, length-drop, length-append}
-use lib.Seq.{take-suc, take-suc-set, drop-set-lt, drop-drop, take-nil, get_or-drop, take_all, take-add, take_at, length-take-le}
+use lib.ListN.{length, take, drop, length-drop, length-append}
+use lib.Seq.{drop-drop, take-nil, take_all, take-add, take_at, length-take-le}
 use lib.Dec.{eqb, ltb}
 use borrow.Author.Tests.{eqb-true, eq-eqb, le-ltb}
 use Rattle.rules.specs.Runs.{State, Out, Item, Counts, run, tally_line}
@@ -73,22 +71,6 @@ module _ {x : List ℕ} {ended : Bool} {s₀ : State} {at : ℕ} {board work : L
       serves s₀ x ended (state_of board₁ work₁ r.tally) (drop at x)
       (sym (ap (λ (is : List Item). (run s₀ is).state) all ∙ on.ran))
       (waits-all ended (drop at x) idle.0 idle.1 idle.2 ∙ on.waits)
-
--- one more byte at the front
-module _ (buf₀ buf : List ℕ) (at i : ℕ) (long : length buf ≡ length buf₀) (low : at + i < length buf₀)
-    (front : take i buf ≡ take i (drop at buf₀)) (back : drop i buf ≡ drop i buf₀) where
-  same_byte : get_or buf (at + i) 0 ≡ get_or (drop at buf₀) i 0
-  same_byte =
-      ap (λ (k : ℕ). get_or buf k 0) (add_comm at i) ∙ sym (get_or-drop i buf at 0) ∙ ap (λ (l : List ℕ). get_or l at 0) back ∙ get_or-drop i buf₀ at 0
-      ∙ ap (λ (k : ℕ). get_or buf₀ k 0) (add_comm i at) ∙ sym (get_or-drop at buf₀ i 0)
-
-  pub front-more : take (i + 1) (set buf i (get_or buf (at + i) 0)) ≡ take (i + 1) (drop at buf₀)
-  front-more =
-      rw (add-one, take-suc-set buf i (get_or buf (at + i) 0) (omega arith), take-suc (drop at buf₀) i 0 (omega (arith, length-drop at buf₀)), front, same_byte)
-
-  pub back_more : drop (i + 1) (set buf i (get_or buf (at + i) 0)) ≡ drop (i + 1) buf₀
-  back_more =
-      drop-set-lt (i + 1) buf i _ (omega arith) ∙ sym (drop-drop 1 i buf) ∙ ap (drop 1) back ∙ drop-drop 1 i buf₀
 
 -- ---- one read
 

@@ -1,4 +1,4 @@
-// Reads standard input to its end in pieces, hands them to the block function and writes the answers, then the N line. It is proved here what the loop keeps:
+// Reads an input to its end in pieces, hands them to the block function and writes the answers, then the N line. It is proved here what the loop keeps:
 // no byte that waits between two reads is lost, and no line.
 #![tactic(auto)]
 
@@ -10,25 +10,26 @@ ghost use Rattle.answers.specs.Values.{state_of};
 ghost use Rattle.serving.specs.Serving.{Pulled, ReadAll, Serves};
 
 use answers::{Tally, new_day};
-use libc::{STDIN_FILENO, STDOUT_FILENO};
 use running::{REPLY_ROOM, WAITING, run_block};
+use std::io::{Read, Write};
 use writing::close;
 
 // Writes out the first n bytes. After a write that fails the run goes on, so that it ends with its input.
-fn drain(out: &[u8], n: usize)
+fn drain<W: Write>(output: &mut W, out: &[u8], n: usize)
     requires { n ≤ length out.now }
 {
-    io::write_all(STDOUT_FILENO, &out[..n]);
+    let _ = output.write_all(&out[..n]);
 }
 
-#[derive(Drop)]
+#[derive(Clone, Copy)]
 struct Done {
     at: usize,
     tally: Tally,
 }
 
 // Blocks, until one uses nothing: then no whole line is left, and after the input's end nothing at all.
-fn work_off(
+fn work_off<W: Write>(
+    output: &mut W,
     input: &[u8],
     ended: bool,
     board: &mut [u16],
@@ -42,10 +43,10 @@ fn work_off(
 {
     let mut at: usize = 0;
     let mut t = tally;
-    loop {
+    'rooms: loop {
         let b = run_block(&input[at..], ended, board, work, t, out);
         let written = b.written;
-        drain(out, written);
+        drain(output, out, written);
         let u = b.tally;
         let used = b.consumed;
         if used == 0 {
@@ -61,25 +62,23 @@ fn move_front(buf: &mut [u8], at: usize, n: usize)
     requires { at + n ≤ length buf.old }
     ensures { take n buf.new ≡ take n (drop at buf.old) }
 {
-    let mut i: usize = 0;
-    while i < n {
-        buf[i] = buf[at + i];
-        i += 1;
-    }
+    buf.copy_within(at..at + n, 0);
 }
 
 // One read behind the bytes that are held: the place after what it brought. A read that fails brings nothing, as at the input's end.
-fn fill(buf: &mut [u8], held: usize) -> usize
+fn fill<R: Read>(input: &mut R, buf: &mut [u8], held: usize) -> usize
     requires { held ≤ length buf.old }
     ensures lower_bound { (held ≤ result) × (result ≤ length buf.old) }
     ensures buf_unchanged { take held buf.new ≡ take held buf.old }
 {
-    let got = libc::read(STDIN_FILENO, &mut buf[held..]);
-    held + io::count(got, &buf[held..])
+    match input.read(&mut buf[held..]) {
+        Ok(got) => held + got,
+        Err(_) => held,
+    }
 }
 
 // Where the reading stands: the input has ended, so many bytes at the front of the buffer wait for more, the tally. It is handed on whole.
-#[derive(Drop)]
+#[derive(Clone, Copy)]
 struct Stand {
     ended: bool,
     held: usize,
@@ -87,16 +86,24 @@ struct Stand {
 }
 
 // One read, and what it brings worked off. What waits for more stands at the front.
-fn pull(stand: Stand, buf: &mut [u8], board: &mut [u16], work: &mut [u16], out: &mut [u8]) -> Stand
+fn pull<R: Read, W: Write>(
+    input: &mut R,
+    output: &mut W,
+    stand: Stand,
+    buf: &mut [u8],
+    board: &mut [u16],
+    work: &mut [u16],
+    out: &mut [u8],
+) -> Stand
     requires { (stand.held ≤ waiting) × (waiting < length buf.old) × (reply_room ≤ length out.old) }
     ensures held_le_waiting { result.held ≤ waiting }
     ensures pulled { Pulled (state_of board.old work.old stand.tally) (take stand.held buf.old) result.ended (state_of board.new work.new result.tally) (take result.held buf.new) }
 {
     let held = stand.held;
     let tally = stand.tally;
-    let end = fill(buf, held);
+    let end = fill(input, buf, held);
     let ended = end == held;
-    let d = work_off(&buf[..end], ended, board, work, tally, out);
+    let d = work_off(output, &buf[..end], ended, board, work, tally, out);
     let at = d.at;
     let left = end - at;
     move_front(buf, at, left);
@@ -109,9 +116,16 @@ fn pull(stand: Stand, buf: &mut [u8], board: &mut [u16], work: &mut [u16], out: 
 }
 
 // Reads to the end. A proved loop ends, and nothing says that the input does, so it counts its turns down from a number that no run uses up.
-fn read_all(buf: &mut [u8], board: &mut [u16], work: &mut [u16], out: &mut [u8]) -> Stand
+fn read_all<R: Read, W: Write>(
+    input: &mut R,
+    output: &mut W,
+    buf: &mut [u8],
+    board: &mut [u16],
+    work: &mut [u16],
+    out: &mut [u8],
+) -> Stand
     requires { (waiting < length buf.old) × (reply_room ≤ length out.old) }
-    ensures { ReadAll (record { board = board.entry.now; work = work.old; tally = new_day }) result.ended (state_of board.exit.now work.new result.tally) (take result.held buf.new) }
+    ensures { ReadAll (record { board = board.old; work = work.old; tally = new_day }) result.ended (state_of board.new work.new result.tally) (take result.held buf.new) }
 {
     let mut stand = Stand {
         ended: false,
@@ -121,7 +135,7 @@ fn read_all(buf: &mut [u8], board: &mut [u16], work: &mut [u16], out: &mut [u8])
     let mut turns = u64::MAX;
     while turns > 0 {
         turns -= 1;
-        stand = pull(stand, buf, board, work, out);
+        stand = pull(input, output, stand, buf, board, work, out);
         if stand.ended {
             return stand;
         }
@@ -130,7 +144,14 @@ fn read_all(buf: &mut [u8], board: &mut [u16], work: &mut [u16], out: &mut [u8])
 }
 
 // The whole run. A buffer that could not show that a line is too long, or a room that an answer could outgrow, is turned down: then nothing is read.
-pub fn serve(buf: &mut [u8], board: &mut [u16], work: &mut [u16], out: &mut [u8])
+pub fn serve<R: Read, W: Write>(
+    input: &mut R,
+    output: &mut W,
+    buf: &mut [u8],
+    board: &mut [u16],
+    work: &mut [u16],
+    out: &mut [u8],
+)
     ensures { Serves buf.old board.old work.old out.old buf.new board.new work.new out.new }
 {
     if buf.len() <= WAITING {
@@ -139,8 +160,8 @@ pub fn serve(buf: &mut [u8], board: &mut [u16], work: &mut [u16], out: &mut [u8]
     if out.len() < REPLY_ROOM {
         return;
     }
-    let stand = read_all(buf, board, work, out);
+    let stand = read_all(input, output, buf, board, work, out);
     let t = stand.tally;
     let n = close(t, out);
-    drain(out, n);
+    drain(output, out, n);
 }
