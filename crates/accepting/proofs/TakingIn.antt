@@ -5,7 +5,7 @@ use Prim.Native.Nat.{ℕ}
 use lib.ListN.{length, take}
 use borrow.Author.Tests.{ne_eqb}
 use Rattle.rules.specs.Bringing.{answer, bring_in}
-use Rattle.rules.specs.Calls.{Answer, accept, order, first, late}
+use Rattle.rules.specs.Calls.{Answer, accept, first, late}
 use Rattle.rules.specs.Known.{act_tidied, past_gate}
 use Rattle.rules.specs.Layout.{most_choices}
 use Rattle.rules.proofs.WordLaws.{row8-same}

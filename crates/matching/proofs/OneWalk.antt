@@ -8,7 +8,7 @@ use Prim.Native.Nat.{ℕ, ◌≤◌, ◌<◌, min}
 use native.Mathlib.Omega.{arith}
 use lib.Dec.{T, eqb, lt→ltb, ltb→lt, nltb→le, eqb→eq, not_T, T_not, eqb_refl}
 use borrow.Author.Tests.{eq-eqb, ne_eqb}
-use Rattle.matching.specs.Placing.{better, pick_from, pick, least_other}
+use Rattle.matching.specs.Placing.{better, pick_from, least_other}
 use Rattle.matching.proofs.Counting.{cond_yes, cond_no}
 use Rattle.matching.proofs.Pick.{pick_from-le}
 

@@ -12,7 +12,7 @@ use Rattle.matching.specs.Lists.{all, any}
 use Rattle.rules.specs.InputLines.{column_bytes, is_column, column_value, letter_of, column_count, columns_from, allowed, well_formed, values, line_refusal}
 use Rattle.rules.specs.Letters.{Letter, letter_s, letter_a, letter_w, letter_p, letter_x, letter_named}
 use Rattle.reading.specs.declared.Kind.{Kind}
-use Rattle.reading.specs.declared.Kind.TheVariants.{Open, Accept, Withdraw, Print, Malformed, TooLarge}
+use Rattle.reading.specs.declared.Kind.TheVariants.{Malformed, TooLarge}
 use Rattle.reading.specs.declared.Columns.{Columns}
 use Rattle.reading.specs.Reading.{kind_refusal, kind_of, class_of, most_columns, ten_columns, refused_line, line_of}
 use Rattle.reading.specs.Reader.{after_letter, after_columns}

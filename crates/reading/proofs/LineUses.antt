@@ -7,7 +7,7 @@ use native.Mathlib.Omega.{arith}
 use lib.Dec.{eqb, ltb, leb}
 use lib.ListN.{length, take, drop, get_or, replicate, length-map}
 use lib.Seq.{take-append_seam, take-take, get_or-take, get_or-drop}
-use borrow.Author.Tests.{eqb-true, leb-true, ne_eqb}
+use borrow.Author.Tests.{leb-true, ne_eqb}
 use Rattle.matching.specs.Lists.{all, any}
 use Rattle.rules.specs.Layout.{most_choices, reads, row8}
 use Rattle.rules.proofs.WordLaws.{reads-is, length-row8}

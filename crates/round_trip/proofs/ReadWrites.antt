@@ -6,7 +6,7 @@ use native.Mathlib.Omega.{arith}
 use borrow.Author.Tests.{ne_eqb}
 use lib.ListN.{length, get_or, drop}
 use Rattle.rules.specs.Calls.{Call, accept, first, order_checks}
-use Rattle.rules.specs.InputLines.{letter_of, column_count, values, line_refusal, call_of, written}
+use Rattle.rules.specs.InputLines.{letter_of, values, line_refusal, call_of, written}
 use Rattle.rules.specs.Layout.{most_slots, row8}
 use Rattle.rules.specs.Letters.{Letter, letter_a}
 use Rattle.rules.specs.RoundTrip.{line_written, WritesBack, AcceptedOrder, AcceptedWritesBack}

@@ -1,14 +1,13 @@
 -- What is known of board and work words stays true: after a call, and after a line.
-use mathlib.Core.Bool.{Bool, true, false, not, cond}
-use mathlib.Core.List.{List, []}
-use mathlib.Core.Logic.{◌⊎◌, inl, inr, ◌≢◌}
+use mathlib.Core.Bool.{Bool, true, false, cond}
+use mathlib.Core.List.{List}
 use mathlib.Core.Path.{◌≡◌, refl, sym, ap, ◌∙◌, subst}
 use Prim.Native.Nat.{ℕ, zero, suc, ◌≤◌, min}
-use native.Mathlib.Decide.{dec_le, ℕ_discrete}
+use native.Mathlib.Decide.{dec_le}
 use native.Mathlib.Omega.{arith}
-use lib.Dec.{T, eqb, ltb, leb, eqb→eq}
+use lib.Dec.{eqb, ltb, leb}
 use lib.ListN.{length, set}
-use borrow.Author.Tests.{le-leb, lt-leb, le-ltb, lt-ltb, eq-eqb, ne_eqb}
+use borrow.Author.Tests.{le-leb, lt-leb, le-ltb, ne_eqb}
 use Rattle.matching.specs.Blocking.{blocked}
 use Rattle.matching.specs.Orders.{Order, seats}
 use Rattle.matching.specs.Placing.{Result, accepted, refused, unfinished, place}
@@ -18,7 +17,7 @@ use Rattle.rules.specs.Known.{Known, Knows, Zeros, perform_known, swept, shown_b
 use Rattle.rules.specs.KnownLines.{asked, handle_known, known_line}
 use Rattle.rules.specs.Layout.{word, size, held_word, held_count, most_slots, board_words, work_words, view, write_at}
 use Rattle.rules.specs.Ledger.{ledger_of}
-use Rattle.rules.specs.InputLines.{letter_of, values, line_refusal, call_of}
+use Rattle.rules.specs.InputLines.{letter_of, values, line_refusal}
 use Rattle.rules.specs.Runs as R
 use Rattle.rules.proofs.Accept.{take_in}
 use Rattle.rules.proofs.Bools.{is_true}

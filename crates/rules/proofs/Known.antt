@@ -5,11 +5,11 @@ use mathlib.Core.Path.{◌≡◌, refl, sym, ap, ◌∙◌, subst}
 use Prim.Native.Nat.{ℕ, zero, suc, ◌≤◌}
 use native.Mathlib.Decide.{dec_le}
 use native.Mathlib.Omega.{arith}
-use lib.Dec.{T, eqb, ltb}
+use lib.Dec.{T, ltb}
 use lib.ListN.{length}
 use borrow.Author.Tests.{lt-ltb, ne_eqb}
 use Rattle.rules.specs.Bringing.{answer}
-use Rattle.rules.specs.Calls.{Call, open-board, accept, withdraw, print, Answer, order, first, board_checks, short_for, early, late, cleared, refused_late, withdrawn, act, step}
+use Rattle.rules.specs.Calls.{Call, open-board, accept, withdraw, print, order, first, board_checks, short_for, early, late, cleared, refused_late, withdrawn, act, step}
 use Rattle.rules.specs.Check.{passes}
 use Rattle.rules.specs.Known.{Known, Knows, gate_of, few_of, tidied, act_tidied, past_gate, perform_known}
 use Rattle.rules.specs.Layout.{word, size, work_words}

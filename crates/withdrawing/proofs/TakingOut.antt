@@ -1,16 +1,11 @@
 -- A withdrawal past the gate, case by case.
-use mathlib.Core.Bool.{Bool, not}
 use mathlib.Core.List.{List}
-use mathlib.Core.Path.{◌≡◌, refl, sym, ap, ◌∙◌}
-use Prim.Native.Nat.{ℕ, ◌-◌}
-use lib.Dec.{eqb}
-use lib.ListN.{set}
+use mathlib.Core.Path.{◌≡◌, ap}
+use Prim.Native.Nat.{ℕ}
 use borrow.Author.Tests.{eq-eqb, ne_eqb}
-use Rattle.matching.specs.Lists.{slots}
 use Rattle.rules.specs.Bringing.{answer}
-use Rattle.rules.specs.Calls.{is_held, slot_of, relabelled_all, freed, withdrawn, withdraw}
+use Rattle.rules.specs.Calls.{slot_of, withdrawn, withdraw}
 use Rattle.rules.specs.Known.{past_gate}
-use Rattle.rules.specs.Layout.{size, held_count, held_word}
 use Rattle.rules.proofs.Finding.{held_found}
 
 module _ (k : ℕ) (w work : List ℕ) where

@@ -2,18 +2,18 @@
 use mathlib.Core.Path.{◌≡◌, sym, ap, ◌∙◌, subst}
 use mathlib.Core.Bool.{false}
 use mathlib.Core.List.{List, [], ◌∷◌, ◌++◌, append_assoc, append-nil}
-use Prim.Native.Nat.{ℕ, ◌+◌, ◌*◌, ◌≤◌, ◌<◌, min}
+use Prim.Native.Nat.{ℕ, ◌+◌, ◌*◌, ◌≤◌, ◌<◌}
 use native.Mathlib.Omega.{arith}
 use native.Mathlib.Decide.{dec_le}
 use borrow.Author.Tests.{le-leb, lt-leb}
 use lib.Dec.{leb}
-use lib.ListN.{length, set, take, length-take, length-append}
-use lib.Seq.{sets, length-sets, take_all}
-use Rattle.rules.specs.AnswerLines.{answer_bytes, slots_per_line, printed}
+use lib.ListN.{length, set, length-append}
+use lib.Seq.{sets, length-sets}
+use Rattle.rules.specs.AnswerLines.{answer_bytes, printed}
 use Rattle.rules.specs.Text.{line_feed, column, columns, text_line}
 use Rattle.rules.proofs.TextLaws.{length-column, length-columns, length-text_line}
 use Rattle.writing.specs.Writing.{put_text, end_of, Puts, three_bytes}
-use Rattle.writing.specs.Storing.{Room, Stores}
+use Rattle.writing.specs.Storing.{Stores}
 use Rattle.writing.proofs.Texts.{sets-next, stores-next}
 
 -- two orders that follow from each other are one test

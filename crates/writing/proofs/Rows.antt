@@ -1,11 +1,10 @@
 -- Rows that are copied.
-use mathlib.Core.Path.{◌≡◌, sym, ap, ap₂, ◌∙◌, subst}
-use mathlib.Core.List.{List, [], ◌∷◌, ◌++◌}
-use Prim.Native.Nat.{ℕ, ◌+◌, ◌<◌}
+use mathlib.Core.Path.{◌≡◌, ap, ap₂, subst}
+use mathlib.Core.List.{List, [], ◌∷◌}
+use Prim.Native.Nat.{ℕ, ◌+◌}
 use native.Mathlib.Omega.{arith}
 use native.Mathlib.Numerals.{add-one}
-use lib.ListN.{length, get_or, take, drop, set, length-drop}
-use lib.Seq.{get_or-drop, take-suc, take-suc-set}
+use lib.ListN.{length, get_or, take}
 use Rattle.rules.specs.Layout.{most_choices, word, reads}
 use Rattle.rules.proofs.WordLaws.{reads-is}
 

@@ -8,7 +8,7 @@ use Rattle.rules.specs.Calls.{Check, first, order_checks, is_held, find_from, sl
 use Rattle.rules.specs.Layout.{size}
 use Rattle.rules.proofs.Finding.{held_found}
 use Rattle.answers.specs.Numbers.{gate_number}
-use Rattle.orders.proofs.Verdicts.{faulty, fine}
+use Rattle.orders.proofs.Verdicts.{fine}
 use Rattle.accepting.proofs.gate_order.Goals as goal
 
 judged : (c : goal.Then-find-ne0) → let a = c.args in gate_number c.judge-g.result ≡ first (order_checks (size a.board.now) a.number a.count a.row [])

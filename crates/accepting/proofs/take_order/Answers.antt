@@ -1,8 +1,8 @@
-use mathlib.Core.Path.{◌≡◌, sym, ap, ◌∙◌}
+use mathlib.Core.Path.{◌≡◌}
 use native.Mathlib.Omega.{arith}
 use lib.ListN.{length}
 use Rattle.rules.specs.Layout.{most_choices}
-use Rattle.answers.specs.Numbers.{gate_number, said}
+use Rattle.answers.specs.Numbers.{said}
 use Rattle.answers.proofs.NumberLaws.{code-some}
 use Rattle.accepting.proofs.TakingIn.{turned, goes}
 use borrow.Author.Rules.{rules}

@@ -1,8 +1,7 @@
 use Prim.Native.Nat.{◌-◌, ◌≤◌}
-use mathlib.Core.Path.{◌≡◌, refl, sym, ◌∙◌}
+use mathlib.Core.Path.{◌≡◌}
 use lib.ListN.{length}
 use Rattle.framing.specs.Ends.{line_end}
-use Rattle.framing.proofs.EndLaws.{end-here, end-past, end-over}
 use Rattle.framing.proofs.end_from.Given as goal
 
 -- `framing::end_from` meets its contract. The invariant: the line that has come to i ends where it ended before.

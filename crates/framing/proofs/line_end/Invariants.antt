@@ -1,10 +1,7 @@
-use Prim.Native.Nat.{ℕ, ◌+◌, ◌-◌, ◌≤◌, ◌<◌}
-use mathlib.Core.Path.{◌≡◌, refl, sym, ◌∙◌}
-use mathlib.Core.List.{List}
-use native.Mathlib.Omega.{arith}
+use Prim.Native.Nat.{◌-◌, ◌≤◌}
+use mathlib.Core.Path.{◌≡◌}
 use lib.ListN.{length}
 use Rattle.framing.specs.Ends.{line_end}
-use Rattle.framing.proofs.EndLaws.{end-here, end-past, end-over}
 use Rattle.framing.proofs.line_end.Given as goal
 
 -- `framing::line_end` meets its contract. The invariant: the line that has come to i ends where it ended before.

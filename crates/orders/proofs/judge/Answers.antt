@@ -3,7 +3,7 @@ use mathlib.Core.Path.{◌≡◌, sym, ap, ◌∙◌}
 use native.Mathlib.Omega.{arith}
 use lib.Dec.{leb, eqb}
 use lib.ListN.{take, length}
-use borrow.Author.Tests.{le-leb, lt-leb, eq-eqb, ne_eqb, not-true, not-false}
+use borrow.Author.Tests.{le-leb, ne_eqb}
 use Rattle.matching.specs.Lists.{rising}
 use Rattle.rules.specs.Calls.{on_board}
 use Rattle.rules.specs.Layout.{most_choices, row8}

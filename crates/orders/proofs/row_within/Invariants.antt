@@ -1,12 +1,8 @@
-use mathlib.Core.List.{List}
-use mathlib.Core.Path.{◌≡◌, sym, ap, ◌∙◌}
-use Prim.Native.Nat.{ℕ, ◌-◌, ◌≤◌}
-use native.Mathlib.Omega.{arith}
-use lib.ListN.{length, take, drop}
+use mathlib.Core.Path.{◌≡◌}
+use Prim.Native.Nat.{◌-◌, ◌≤◌}
+use lib.ListN.{take, drop}
 use Rattle.rules.specs.Calls.{on_board}
 use Rattle.rules.specs.Layout.{most_choices}
-use Rattle.orders.proofs.Rows.{on-low, on-high, on-more, on-done}
-use Rattle.rules.proofs.Fronts.{take_places}
 use Rattle.orders.proofs.row_within.Given as goal
 
 -- `orders::row_within` meets its contract. The invariant: what is left of the walk answers as the whole, of which eight places at most are asked.

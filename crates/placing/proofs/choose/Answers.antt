@@ -1,9 +1,9 @@
-use mathlib.Core.Path.{◌≡◌, refl, sym, ◌∙◌}
-use Prim.Native.Nat.{◌-◌, ◌≤◌}
+use mathlib.Core.Path.{◌≡◌, sym, ◌∙◌}
+use Prim.Native.Nat.{◌≤◌}
 use native.Mathlib.Omega.{arith}
 use lib.ListN.{length, get_or, take}
 use lib.Seq.{get_or-take}
-use Rattle.placing.proofs.Walks.{Met, first-met, one_more, last-met}
+use Rattle.placing.proofs.Walks.{first-met, one_more, last-met}
 use borrow.Author.Rules.{rules}
 use Rattle.placing.proofs.choose.Goals as goal
 use Rattle.placing.proofs.choose.Goals.{then-count-eq0, else-count-eq0}
@@ -16,8 +16,8 @@ loop-i-init c =
     let a = c.args in
     let long : a.choices.count ≤ length a.choices.row = omega (arith, eight c, c.requires) in
     let first : c.if-count-eq0.slot ≡ get_or (take a.choices.count a.choices.row) 0 0 = elim c.if-count-eq0.branch [
-      then-count-eq0 w ↦ w.slot-is ∙ rw w.if-count-eq0.true
-    | else-count-eq0 w ↦ w.slot-is ∙ sym (get_or-take a.choices.count a.choices.row 0 0 (omega (arith, w.if-count-eq0.false)))
+      | then-count-eq0 w ↦ w.slot-is ∙ rw w.if-count-eq0.true
+      | else-count-eq0 w ↦ w.slot-is ∙ sym (get_or-take a.choices.count a.choices.row 0 0 (omega (arith, w.if-count-eq0.false)))
     ] in
     (long, first-met a.board.now a.n a.choices.row a.choices.count c.if-count-eq0.slot c.label_at-least.result first c.label_at-least.ensures)
 

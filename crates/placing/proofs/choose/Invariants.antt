@@ -1,10 +1,6 @@
-use mathlib.Core.Logic.{⊎_elim}
-use mathlib.Core.Path.{◌≡◌, refl, sym, ◌∙◌}
 use Prim.Native.Nat.{◌-◌, ◌≤◌}
-use native.Mathlib.Omega.{arith}
-use lib.ListN.{length, get_or, take}
-use lib.Seq.{get_or-take}
-use Rattle.placing.proofs.Walks.{Met, first-met, one_more, last-met}
+use lib.ListN.{length}
+use Rattle.placing.proofs.Walks.{Met}
 use Rattle.placing.proofs.choose.Given as goal
 
 abbrev pub invariant-loop-i : goal.invariant-loop-i

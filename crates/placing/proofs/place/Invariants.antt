@@ -1,12 +1,9 @@
-use mathlib.Core.Path.{◌≡◌, refl, sym, ap, ◌∙◌}
-use Prim.Native.Nat.{ℕ, suc, ◌-◌, ◌*◌}
-use native.Mathlib.Nat.{sub-zero}
-use native.Mathlib.Omega.{arith}
+use mathlib.Core.Path.{◌≡◌}
+use Prim.Native.Nat.{◌-◌}
 use lib.ListN.{length}
 use Rattle.matching.specs.Placing.{follow}
 use Rattle.rules.specs.Layout.{view, write_at}
 use Rattle.words.specs.Carried.{carried}
-use Rattle.placing.proofs.Following.{ends, stops, places, pushes}
 use Rattle.placing.proofs.place.Given as goal
 
 abbrev pub invariant-loop-moves : goal.invariant-loop-moves

@@ -1,8 +1,7 @@
-use mathlib.Core.Path.{◌≡◌, refl, sym, ap, ◌∙◌, subst}
-use Prim.Native.Nat.{◌-◌, ◌≤◌}
+use mathlib.Core.Path.{sym, ap, ◌∙◌, subst}
+use Prim.Native.Nat.{◌≤◌}
 use native.Mathlib.Omega.{arith}
-use lib.ListN.{length}
-use Rattle.matching.specs.Orders.{Order, open_slots}
+use Rattle.matching.specs.Orders.{open_slots}
 use Rattle.words.specs.Carried.{carried}
 use Rattle.words.specs.declared.Loose.{Loose}
 use Rattle.reaching.specs.Queue.{Visited}

@@ -1,13 +1,8 @@
-use mathlib.Core.Path.{◌≡◌, refl, sym, ap, ◌∙◌, subst}
-use Prim.Native.Nat.{◌-◌, ◌≤◌}
-use native.Mathlib.Omega.{arith}
+use mathlib.Core.Path.{◌≡◌}
+use Prim.Native.Nat.{◌-◌}
 use lib.ListN.{length}
-use Rattle.matching.specs.Orders.{Order, open_slots}
-use Rattle.words.specs.Carried.{carried}
-use Rattle.words.specs.declared.Loose.{Loose}
-use Rattle.reaching.specs.Queue.{Visited}
-use Rattle.reaching.proofs.Closing.{Going, begin, s-in, s-reached, hit, further, closed}
-use Rattle.reaching.proofs.Visiting.{empty, tail-le}
+use Rattle.matching.specs.Orders.{Order}
+use Rattle.reaching.proofs.Closing.{Going}
 use Rattle.reaching.proofs.close.Given as goal
 
 abbrev pub invariant-loop-head : goal.invariant-loop-head

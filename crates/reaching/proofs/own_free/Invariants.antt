@@ -1,11 +1,6 @@
-use mathlib.Core.Bool.{Bool}
-use mathlib.Core.Path.{◌≡◌, sym, ◌∙◌, subst}
+use mathlib.Core.Path.{◌≡◌}
 use Prim.Native.Nat.{◌-◌, ◌≤◌}
-use native.Mathlib.Omega.{arith}
-use lib.Dec.{T}
 use lib.ListN.{length}
-use Rattle.words.proofs.OpenSlots.{few}
-use Rattle.reaching.proofs.Closing.{own-hit}
 use Rattle.reaching.proofs.own_free.Given as goal
 
 abbrev pub invariant-loop-i : goal.invariant-loop-i

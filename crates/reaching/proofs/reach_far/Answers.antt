@@ -1,11 +1,4 @@
-use mathlib.Core.Bool.{Bool, true, false}
-use mathlib.Core.Path.{◌≡◌, ap, ◌∙◌, subst}
 use native.Mathlib.Omega.{arith}
-use lib.ListN.{length}
-use lib.Seq.{sets}
-use Rattle.words.specs.Carried.{carried}
-use Rattle.reaching.specs.Queue.{Closes}
-use Rattle.reaching.proofs.Telling.{free, shut}
 use Rattle.reaching.proofs.Visiting.{blank}
 use Rattle.reaching.proofs.reach_far.Goals as goal
 

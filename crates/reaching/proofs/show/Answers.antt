@@ -1,6 +1,6 @@
-use Prim.Native.Nat.{◌+◌, ◌-◌, ◌≤◌}
+use Prim.Native.Nat.{◌≤◌}
 use native.Mathlib.Omega.{arith}
-use Rattle.reaching.proofs.Showing.{Showing, show-begin, one_more, no_more, all_shown, few}
+use Rattle.reaching.proofs.Showing.{one_more, no_more, few}
 use Rattle.reaching.proofs.show.Goals as goal
 use Rattle.reaching.proofs.show.Goals.{then-work-size-ne-UNSEEN, else-work-size-ne-UNSEEN}
 
@@ -18,8 +18,8 @@ loop-t-preserved c =
     let l = c.loop-t in
     let le : l.t ≤ c.args.n = omega arith in
     elim c.if-work-size-ne-UNSEEN.branch [
-      then-work-size-ne-UNSEEN w ↦ rw (w.out-is, w.j-is) (one_more _ _ _ _ _ _ l.invariant le w.if-work-size-ne-UNSEEN.true)
-    | else-work-size-ne-UNSEEN w ↦ rw (w.out-is, w.j-is) (no_more _ _ _ _ _ _ l.invariant le w.if-work-size-ne-UNSEEN.false)
+      | then-work-size-ne-UNSEEN w ↦ rw (w.out-is, w.j-is) (one_more _ _ _ _ _ _ l.invariant le w.if-work-size-ne-UNSEEN.true)
+      | else-work-size-ne-UNSEEN w ↦ rw (w.out-is, w.j-is) (no_more _ _ _ _ _ _ l.invariant le w.if-work-size-ne-UNSEEN.false)
     ]
 
 pub overflow_cast-result : goal.overflow_cast-result

@@ -1,7 +1,5 @@
-use mathlib.Core.Logic.{⊎_elim}
-use Prim.Native.Nat.{◌+◌, ◌-◌, ◌≤◌}
-use native.Mathlib.Omega.{arith}
-use Rattle.reaching.proofs.Showing.{Showing, show-begin, one_more, no_more, all_shown, few}
+use Prim.Native.Nat.{◌+◌, ◌-◌}
+use Rattle.reaching.proofs.Showing.{Showing}
 use Rattle.reaching.proofs.show.Given as goal
 
 abbrev pub invariant-loop-t : goal.invariant-loop-t

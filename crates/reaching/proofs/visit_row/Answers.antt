@@ -1,10 +1,7 @@
-use mathlib.Core.Path.{◌≡◌}
-use Prim.Native.Nat.{◌-◌, ◌≤◌, ◌<◌}
+use Prim.Native.Nat.{◌<◌}
 use native.Mathlib.Omega.{arith}
-use lib.ListN.{length, take}
 use Rattle.rules.proofs.Fronts.{take_more}
-use Rattle.reaching.specs.Queue.{Visited}
-use Rattle.reaching.proofs.Visiting.{none, both}
+use Rattle.reaching.proofs.Visiting.{both}
 use Rattle.reaching.proofs.visit_row.Goals as goal
 
 pub loop-i-preserved : goal.loop-i-preserved

@@ -1,10 +1,7 @@
 use mathlib.Core.Path.{◌≡◌}
-use Prim.Native.Nat.{◌-◌, ◌≤◌, ◌<◌}
-use native.Mathlib.Omega.{arith}
+use Prim.Native.Nat.{◌-◌, ◌≤◌}
 use lib.ListN.{length, take}
-use Rattle.rules.proofs.Fronts.{take_more}
 use Rattle.reaching.specs.Queue.{Visited}
-use Rattle.reaching.proofs.Visiting.{none, both}
 use Rattle.reaching.proofs.visit_row.Given as goal
 
 abbrev pub invariant-loop-i : goal.invariant-loop-i

@@ -1,12 +1,12 @@
-use Prim.Native.Nat.{ℕ, ◌+◌, ◌-◌, ◌^◌, ◌≤◌, ◌<◌}
+use Prim.Native.Nat.{ℕ, ◌+◌, ◌-◌, ◌<◌}
 use mathlib.Core.Path.{◌≡◌, sym, ap, ◌∙◌}
 use mathlib.Core.List.{List}
 use native.Mathlib.Omega.{arith}
 use native.Mathlib.Nat.{add-zero}
 use lib.ListN.{length, take, drop, get_or, length-take, length-drop}
 use Rattle.reading.specs.declared.State.TheVariants.{Blank}
-use Rattle.reading.specs.Machine.{held_by, ended_after}
-use Rattle.reading.proofs.ColumnLaws.{below_more, below-six, rest_more, column-reads, column-short}
+use Rattle.reading.specs.Machine.{ended_after}
+use Rattle.reading.proofs.ColumnLaws.{below_more, rest_more, column-reads, column-short}
 use Rattle.reading.proofs.column.Goals as goal
 
 short : (s : List ℕ) (at : ℕ) → length s < at + 6 → length (take 6 (drop at s)) < 6

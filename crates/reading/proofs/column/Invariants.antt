@@ -1,12 +1,8 @@
-use Prim.Native.Nat.{ℕ, ◌+◌, ◌-◌, ◌^◌, ◌≤◌, ◌<◌}
-use mathlib.Core.Path.{◌≡◌, sym, ap, ◌∙◌}
-use mathlib.Core.List.{List}
-use native.Mathlib.Omega.{arith}
-use native.Mathlib.Nat.{add-zero}
-use lib.ListN.{length, take, drop, get_or, length-take, length-drop}
+use Prim.Native.Nat.{◌+◌, ◌-◌, ◌^◌, ◌≤◌, ◌<◌}
+use mathlib.Core.Path.{◌≡◌}
+use lib.ListN.{take, drop}
 use Rattle.reading.specs.declared.State.TheVariants.{Blank}
 use Rattle.reading.specs.Machine.{held_by, ended_after}
-use Rattle.reading.proofs.ColumnLaws.{below_more, below-six, rest_more, column-reads, column-short}
 use Rattle.reading.proofs.column.Given as goal
 
 -- `reading::column` meets its contract. The invariant: the bytes left, read from the state, give what the six give, and the state's number is below 10 ^ i. Assumes nothing.

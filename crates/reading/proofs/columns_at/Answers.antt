@@ -1,13 +1,12 @@
-use Prim.Native.Nat.{ℕ, suc, ◌+◌, ◌-◌, ◌*◌, ◌≤◌}
-use mathlib.Core.Bool.{Bool, true, false, cond}
+use Prim.Native.Nat.{ℕ, suc, ◌+◌, ◌-◌}
+use mathlib.Core.Bool.{Bool, false, cond}
 use lib.Dec.{ltb}
 use borrow.Author.Tests.{lt-ltb, le-ltb}
 use mathlib.Core.Path.{◌≡◌, sym, ap, ap₂, ◌∙◌}
 use native.Mathlib.Omega.{arith}
-use lib.ListN.{replicate, set}
-use Rattle.reading.specs.Reading.{most_columns}
+use lib.ListN.{set}
 use Rattle.reading.specs.Machine.{columns_at, gathered}
-use Rattle.reading.proofs.ColumnLaws.{gathered-more, gathered-stop}
+use Rattle.reading.proofs.ColumnLaws.{gathered-more}
 use Rattle.reading.proofs.columns_at.Goals as goal
 use Rattle.reading.proofs.columns_at.Goals.{then-v-gt-MOST_VALUE, else-v-gt-MOST_VALUE}
 
@@ -23,9 +22,9 @@ loop-i-preserved c =
     let one : count - i ≡ suc (count - (i + 1)) = omega arith in
     let bound : c.if-v-gt-MOST_VALUE.fits ≡ cond (ltb 65535 v) false fits =
     elim c.if-v-gt-MOST_VALUE.branch [
-        then-v-gt-MOST_VALUE w ↦ w.fits-is ∙ sym (ap (λ (t : Bool). cond t false fits) (lt-ltb 65535 v w.if-v-gt-MOST_VALUE.true))
+      | then-v-gt-MOST_VALUE w ↦ w.fits-is ∙ sym (ap (λ (t : Bool). cond t false fits) (lt-ltb 65535 v w.if-v-gt-MOST_VALUE.true))
       | else-v-gt-MOST_VALUE w ↦ w.fits-is ∙ sym (ap (λ (t : Bool). cond t false fits) (le-ltb 65535 v w.if-v-gt-MOST_VALUE.false))
-      ] in
+    ] in
     let more = gathered-more s vs p (count - (i + 1)) i fits v (sym c.in-Value.ensures) in (
       omega arith,
       omega arith,

@@ -1,14 +1,9 @@
-use Prim.Native.Nat.{ℕ, suc, ◌+◌, ◌-◌, ◌*◌, ◌≤◌}
-use mathlib.Core.Bool.{Bool, true, false, cond}
-use mathlib.Core.Logic.{⊎_elim}
-use lib.Dec.{ltb}
-use borrow.Author.Tests.{lt-ltb, le-ltb}
-use mathlib.Core.Path.{◌≡◌, sym, ap, ap₂, ◌∙◌}
-use native.Mathlib.Omega.{arith}
-use lib.ListN.{replicate, set}
+use Prim.Native.Nat.{◌+◌, ◌-◌, ◌*◌, ◌≤◌}
+use mathlib.Core.Bool.{true}
+use mathlib.Core.Path.{◌≡◌}
+use lib.ListN.{replicate}
 use Rattle.reading.specs.Reading.{most_columns}
 use Rattle.reading.specs.Machine.{columns_at, gathered}
-use Rattle.reading.proofs.ColumnLaws.{gathered-more, gathered-stop}
 use Rattle.reading.proofs.columns_at.Given as goal
 
 -- `reading::columns_at` meets its contract. The invariant: the columns left, gathered after those stored, give what all of them give. Assumes nothing.

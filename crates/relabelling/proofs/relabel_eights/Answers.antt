@@ -1,8 +1,7 @@
 use mathlib.Core.List.{List}
-use mathlib.Core.Path.{◌≡◌, refl, ap, ◌∙◌}
-use Prim.Native.Nat.{ℕ, ◌-◌, ◌≤◌}
+use mathlib.Core.Path.{ap, ◌∙◌}
+use Prim.Native.Nat.{ℕ, ◌-◌}
 use native.Mathlib.Omega.{arith}
-use lib.ListN.{length}
 use Rattle.matching.specs.Lists.{slots}
 use Rattle.rules.specs.Calls.{relabelled_all}
 use Rattle.relabelling.proofs.Walking.{eight-next}

@@ -1,11 +1,8 @@
-use mathlib.Core.List.{List}
-use mathlib.Core.Path.{◌≡◌, refl, ap, ◌∙◌}
-use Prim.Native.Nat.{ℕ, ◌-◌, ◌≤◌}
-use native.Mathlib.Omega.{arith}
+use mathlib.Core.Path.{◌≡◌}
+use Prim.Native.Nat.{◌≤◌}
 use lib.ListN.{length}
 use Rattle.matching.specs.Lists.{slots}
 use Rattle.rules.specs.Calls.{relabelled_all}
-use Rattle.relabelling.proofs.Walking.{eight-next}
 use Rattle.relabelling.proofs.relabel_eights.Given as goal
 
 abbrev pub invariant-loop-s : goal.invariant-loop-s

@@ -1,9 +1,5 @@
-use mathlib.Core.Logic.{inl, inr, ⊎_elim}
-use mathlib.Core.Path.{◌≡◌}
-use Prim.Native.Nat.{◌-◌}
 use native.Mathlib.Omega.{arith}
-use lib.ListN.{length}
-use Rattle.storing.proofs.Rows.{Padding, pad-more, pads}
+use Rattle.storing.proofs.Rows.{pads}
 use Rattle.storing.proofs.padded.Goals as goal
 
 pub returns : goal.returns

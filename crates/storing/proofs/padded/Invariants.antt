@@ -1,9 +1,7 @@
-use mathlib.Core.Logic.{inl, inr, ⊎_elim}
 use mathlib.Core.Path.{◌≡◌}
 use Prim.Native.Nat.{◌-◌}
-use native.Mathlib.Omega.{arith}
 use lib.ListN.{length}
-use Rattle.storing.proofs.Rows.{Padding, pad-more, pads}
+use Rattle.storing.proofs.Rows.{Padding}
 use Rattle.storing.proofs.padded.Given as goal
 
 abbrev pub invariant-loop-i : goal.invariant-loop-i

@@ -1,10 +1,8 @@
-use mathlib.Core.Path.{◌≡◌, sym, ◌∙◌}
-use Prim.Native.Nat.{◌+◌, ◌≤◌, ◌-◌}
-use native.Mathlib.Nat.{add-zero}
+use mathlib.Core.Path.{sym, ◌∙◌}
+use Prim.Native.Nat.{◌+◌}
 use native.Mathlib.Omega.{arith}
-use lib.ListN.{length, drop, length-set}
-use lib.Seq.{sets}
-use Rattle.storing.proofs.Stores.{sets_more, sets-out}
+use lib.ListN.{drop}
+use Rattle.storing.proofs.Stores.{sets-out}
 use Rattle.storing.proofs.put_part.Goals as goal
 
 pub returns : goal.returns

@@ -1,9 +1,7 @@
-use mathlib.Core.Path.{◌≡◌, refl, sym, ◌∙◌}
+use mathlib.Core.Path.{◌≡◌}
 use Prim.Native.Nat.{◌-◌, ◌≤◌, min}
-use native.Mathlib.Omega.{arith}
-use lib.ListN.{length, drop, replicate, length-set}
+use lib.ListN.{length, drop, replicate}
 use lib.Seq.{sets}
-use Rattle.storing.proofs.Stores.{front-more, front-done}
 use Rattle.storing.proofs.zero_front.Given as goal
 
 abbrev pub invariant-loop-i : goal.invariant-loop-i

@@ -1,7 +1,5 @@
-use Prim.Native.Nat.{◌-◌}
 use native.Mathlib.Omega.{arith}
-use lib.ListN.{length}
-use Rattle.words.proofs.Copies.{Copies, begins, more, done}
+use Rattle.words.proofs.Copies.{done}
 use Rattle.words.proofs.record_short.Goals as goal
 
 pub returns : goal.returns

@@ -1,7 +1,6 @@
 use Prim.Native.Nat.{◌-◌}
-use native.Mathlib.Omega.{arith}
 use lib.ListN.{length}
-use Rattle.words.proofs.Copies.{Copies, begins, more, done}
+use Rattle.words.proofs.Copies.{Copies}
 use Rattle.words.proofs.record_short.Given as goal
 
 abbrev pub invariant-loop-k : goal.invariant-loop-k

@@ -1,6 +1,6 @@
 use native.Mathlib.Omega.{arith}
 use Rattle.rules.specs.Runs.{tally_line}
-use Rattle.writing.proofs.Closing.{closes-none, closes-all}
+use Rattle.writing.proofs.Closing.{closes-all}
 use Rattle.writing.proofs.close.Goals as goal
 
 pub returns : goal.returns

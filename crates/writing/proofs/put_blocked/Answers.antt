@@ -1,9 +1,6 @@
-use Prim.Native.Nat.{◌-◌}
 use native.Mathlib.Omega.{arith}
-use borrow.Author.Tests.{leb-true, leb-false, not-true, not-false}
-use lib.ListN.{length}
-use Rattle.writing.proofs.Texts.{joins-all}
-use Rattle.writing.proofs.Blocked.{KLinesFrom, k-lines-none, k-lines-room, k-lines-more, k-lines-all}
+use borrow.Author.Tests.{leb-true, leb-false}
+use Rattle.writing.proofs.Blocked.{k-lines-none, k-lines-room, k-lines-more, k-lines-all}
 use mathlib.Core.Path.{sym, ◌∙◌}
 use Rattle.writing.proofs.put_blocked.Goals as goal
 

@@ -1,9 +1,4 @@
-use mathlib.Core.List.{List}
-use mathlib.Core.Path.{◌≡◌, sym, ap, ◌∙◌, subst}
-use Prim.Native.Nat.{ℕ}
-use Rattle.rules.specs.AnswerLines.{blocked_lines}
-use Rattle.writing.specs.Writing.{Puts}
-use Rattle.writing.proofs.ReplyTexts.{after-blocked, after-plan, after-refused, after-other, puts-empty}
+use Rattle.writing.proofs.ReplyTexts.{after-refused, after-other, puts-empty}
 use Rattle.writing.proofs.put_following.Goals as goal
 
 pub returns-then-refusal-ne0 : goal.returns-then-refusal-ne0

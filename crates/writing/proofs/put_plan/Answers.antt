@@ -1,8 +1,7 @@
 use mathlib.Core.Path.{sym, ◌∙◌}
 use native.Mathlib.Omega.{arith}
-use borrow.Author.Tests.{leb-true, leb-false, not-true, not-false}
-use Prim.Native.Nat.{◌-◌}
-use Rattle.writing.proofs.Plan.{PlanFrom, plan-start, plan-more, plan-none, plan-room, plan-all, plan-whole}
+use borrow.Author.Tests.{leb-true, leb-false}
+use Rattle.writing.proofs.Plan.{plan-more, plan-none, plan-room, plan-all, plan-whole}
 use Rattle.writing.proofs.put_plan.Goals as goal
 
 pub returns-then-not-fits : goal.returns-then-not-fits

@@ -1,8 +1,5 @@
-use mathlib.Core.Path.{sym, ◌∙◌}
-use native.Mathlib.Omega.{arith}
-use borrow.Author.Tests.{leb-true, leb-false, not-true, not-false}
 use Prim.Native.Nat.{◌-◌}
-use Rattle.writing.proofs.Plan.{PlanFrom, plan-start, plan-more, plan-none, plan-room, plan-all, plan-whole}
+use Rattle.writing.proofs.Plan.{PlanFrom}
 use Rattle.writing.proofs.put_plan.Given as goal
 
 -- `writing::put_plan` meets its contract. The invariant: the lines that are left join to the whole.

@@ -1,6 +1,5 @@
 use mathlib.Core.Path.{sym, ◌∙◌}
 use native.Mathlib.Omega.{arith}
-use borrow.Author.Tests.{not-true, not-false}
 use Rattle.writing.proofs.ReplyTexts.{reply-none, reply-room, reply-all}
 use Rattle.writing.proofs.put_reply.Goals as goal
 

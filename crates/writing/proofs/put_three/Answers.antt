@@ -1,9 +1,3 @@
-use mathlib.Core.Path.{◌≡◌, ◌∙◌}
-use Prim.Native.Nat.{◌+◌, ◌*◌}
-use native.Mathlib.Omega.{arith}
-use lib.ListN.{length, length-set}
-use Rattle.rules.specs.AnswerLines.{answer_bytes}
-use Rattle.rules.specs.Text.{line_feed}
 use Rattle.writing.proofs.Puts.{three-stored}
 use Rattle.writing.proofs.put_three.Goals as goal
 

@@ -1,7 +1,6 @@
 use mathlib.Core.Path.{◌≡◌, refl, sym, ap, ◌∙◌}
-use Prim.Native.Nat.{ℕ, ◌+◌, ◌*◌, ◌≤◌}
+use Prim.Native.Nat.{ℕ, ◌+◌, ◌*◌}
 use lib.ListN.{length}
-use borrow.Author.Tests.{leb-true, not-true, not-false}
 use Rattle.rules.specs.AnswerLines.{blocked_lines, following}
 use Rattle.rules.specs.Layout.{size}
 use Rattle.rules.proofs.ReplyLengths.{length-slots}

@@ -1,6 +1,5 @@
 use mathlib.Core.Path.{sym, ◌∙◌}
 use native.Mathlib.Omega.{arith}
-use borrow.Author.Tests.{not-true, not-false}
 use Rattle.checking.proofs.Gates.{no-slots, too_many, too_short, miscounted, slot-spoilt, all-but-numbers}
 use Rattle.checking.proofs.checks.check.Goals as goal
 

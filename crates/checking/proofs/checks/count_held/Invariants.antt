@@ -1,10 +1,7 @@
-use mathlib.Core.Logic.{⊎_elim}
-use mathlib.Core.Path.{◌≡◌, refl, sym, ap, ◌∙◌}
-use Prim.Native.Nat.{ℕ, ◌+◌, ◌-◌, ◌≤◌}
-use native.Mathlib.Omega.{arith}
+use mathlib.Core.Path.{◌≡◌}
+use Prim.Native.Nat.{◌+◌, ◌-◌, ◌≤◌}
 use lib.ListN.{length}
 use Rattle.checking.specs.Slots.{held_on}
-use Rattle.checking.proofs.HeldOrders.{on-next, on-skip, held-few}
 use Rattle.checking.proofs.checks.count_held.Given as goal
 
 abbrev pub invariant-loop-s : goal.invariant-loop-s

@@ -1,11 +1,7 @@
-use mathlib.Core.Bool.{false}
-use mathlib.Core.Logic.{⊎_elim}
-use mathlib.Core.Path.{◌≡◌, sym, ap, ◌∙◌}
-use Prim.Native.Nat.{ℕ, ◌+◌, ◌-◌, ◌≤◌}
-use native.Mathlib.Omega.{arith}
-use lib.ListN.{get_or, length-replicate, length, length-set}
-use Rattle.matching.specs.Lists.{indicator}
-use Rattle.checking.proofs.HeldOrders.{Flags, flags-none, flags-skip, flags-mark, flags-done, twice}
+use mathlib.Core.Path.{◌≡◌}
+use Prim.Native.Nat.{◌+◌, ◌-◌, ◌≤◌}
+use lib.ListN.{length}
+use Rattle.checking.proofs.HeldOrders.{Flags}
 use Rattle.checking.proofs.checks.numbers_differ.Given as goal
 
 abbrev pub invariant-loop-s : goal.invariant-loop-s

@@ -1,12 +1,9 @@
-use mathlib.Core.Bool.{true}
-use mathlib.Core.Path.{◌≡◌, refl, sym, ap, ◌∙◌}
-use Prim.Native.Nat.{ℕ, ◌+◌, ◌-◌, ◌≤◌}
+use mathlib.Core.Path.{sym, ◌∙◌}
 use native.Mathlib.Omega.{arith}
-use borrow.Author.Tests.{not-true, not-false}
-use Rattle.matching.specs.Lists.{slots, all}
+use Rattle.matching.specs.Lists.{slots}
 use Rattle.matching.proofs.Seated.{in-slots}
 use Rattle.rules.specs.Check.{slot_fine}
-use Rattle.checking.proofs.RowWalks.{slots-more, all-false}
+use Rattle.checking.proofs.RowWalks.{all-false}
 use Rattle.checking.proofs.checks.slots_fine.Goals as goal
 
 pub returns-then-not-slot_fine : goal.returns-then-not-slot_fine

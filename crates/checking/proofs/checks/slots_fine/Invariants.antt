@@ -1,12 +1,8 @@
 use mathlib.Core.Bool.{true}
-use mathlib.Core.Path.{◌≡◌, refl, sym, ap, ◌∙◌}
-use Prim.Native.Nat.{ℕ, ◌+◌, ◌-◌, ◌≤◌}
-use native.Mathlib.Omega.{arith}
-use borrow.Author.Tests.{not-true, not-false}
+use mathlib.Core.Path.{◌≡◌}
+use Prim.Native.Nat.{◌+◌, ◌-◌, ◌≤◌}
 use Rattle.matching.specs.Lists.{slots, all}
-use Rattle.matching.proofs.Seated.{in-slots}
 use Rattle.rules.specs.Check.{slot_fine}
-use Rattle.checking.proofs.RowWalks.{slots-more, all-false}
 use Rattle.checking.proofs.checks.slots_fine.Given as goal
 
 abbrev pub invariant-loop-s : goal.invariant-loop-s

@@ -1,6 +1,5 @@
 use mathlib.Core.Path.{sym, ap, ◌∙◌}
 use Prim.Native.Nat.{ℕ}
-use native.Mathlib.Nat.{sub-zero}
 use Rattle.rules.specs.Calls.{find_from}
 use Rattle.checking.proofs.Looking.{find-zero}
 use Rattle.checking.proofs.finding.find.Goals as goal

@@ -1,6 +1,5 @@
-use mathlib.Core.Path.{◌≡◌, refl, sym, ◌∙◌}
-use Prim.Native.Nat.{◌-◌, ◌≤◌}
-use Rattle.checking.proofs.Looking.{after, after-all, after-here, after_next}
+use mathlib.Core.Path.{sym, ◌∙◌}
+use Rattle.checking.proofs.Looking.{after-all, after-here, after_next}
 use borrow.Author.Rules.{rules}
 use Rattle.checking.proofs.finding.find_after.Goals as goal
 

@@ -1,6 +1,6 @@
-use mathlib.Core.Path.{◌≡◌, refl, sym, ◌∙◌}
+use mathlib.Core.Path.{◌≡◌}
 use Prim.Native.Nat.{◌-◌, ◌≤◌}
-use Rattle.checking.proofs.Looking.{after, after-all, after-here, after_next}
+use Rattle.checking.proofs.Looking.{after}
 use Rattle.checking.proofs.finding.find_after.Given as goal
 
 abbrev pub invariant-loop-seen : goal.invariant-loop-seen

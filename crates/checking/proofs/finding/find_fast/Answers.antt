@@ -1,8 +1,6 @@
 use mathlib.Core.Path.{◌≡◌, sym, ap, ◌∙◌}
-use Prim.Native.Nat.{ℕ, ◌+◌, ◌-◌, ◌≤◌}
-use native.Mathlib.Nat.{sub-zero}
+use Prim.Native.Nat.{◌+◌}
 use native.Mathlib.Omega.{arith}
-use Rattle.rules.specs.Calls.{find_from}
 use Rattle.checking.specs.Slots.{FourLack}
 use Rattle.checking.proofs.Looking.{after, four-missed}
 use Rattle.checking.proofs.finding.find_fast.Goals as goal

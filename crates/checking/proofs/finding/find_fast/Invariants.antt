@@ -1,10 +1,7 @@
-use mathlib.Core.Path.{◌≡◌, sym, ap, ◌∙◌}
-use Prim.Native.Nat.{ℕ, ◌+◌, ◌-◌, ◌≤◌}
-use native.Mathlib.Nat.{sub-zero}
-use native.Mathlib.Omega.{arith}
+use mathlib.Core.Path.{◌≡◌}
+use Prim.Native.Nat.{◌-◌, ◌≤◌}
 use Rattle.rules.specs.Calls.{find_from}
-use Rattle.checking.specs.Slots.{FourLack}
-use Rattle.checking.proofs.Looking.{after, four-missed}
+use Rattle.checking.proofs.Looking.{after}
 use Rattle.checking.proofs.finding.find_fast.Given as goal
 
 abbrev pub invariant-loop-past : goal.invariant-loop-past

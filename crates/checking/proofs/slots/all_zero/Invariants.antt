@@ -1,9 +1,7 @@
-use mathlib.Core.Path.{◌≡◌, refl, sym, ◌∙◌}
+use mathlib.Core.Path.{◌≡◌}
 use Prim.Native.Nat.{◌-◌, ◌≤◌}
-use native.Mathlib.Omega.{arith}
 use lib.ListN.{drop, length}
 use Rattle.rules.specs.Check.{zeros}
-use Rattle.checking.proofs.RowWalks.{zeros-stop, zeros-more, zeros-done}
 use Rattle.checking.proofs.slots.all_zero.Given as goal
 
 abbrev pub invariant-loop-i : goal.invariant-loop-i

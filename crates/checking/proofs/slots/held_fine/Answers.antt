@@ -1,5 +1,4 @@
 use mathlib.Core.Path.{sym, ◌∙◌}
-use borrow.Author.Tests.{not-true, not-false}
 use Rattle.words.proofs.OpenSlots.{few}
 use Rattle.checking.proofs.HeldTests.{bad-list, no_label, high-label, label-tells}
 use Rattle.checking.proofs.slots.held_fine.Goals as goal

@@ -1,9 +1,7 @@
-use mathlib.Core.Path.{◌≡◌, refl, sym, ◌∙◌}
+use mathlib.Core.Path.{◌≡◌}
 use Prim.Native.Nat.{◌-◌, ◌≤◌}
-use native.Mathlib.Omega.{arith}
-use lib.ListN.{take, drop, length}
+use lib.ListN.{take, drop}
 use Rattle.matching.specs.Lists.{member}
-use Rattle.checking.proofs.RowWalks.{member-hit, member-more, member-done}
 use Rattle.checking.proofs.slots.is_among.Given as goal
 
 abbrev pub invariant-loop-i : goal.invariant-loop-i

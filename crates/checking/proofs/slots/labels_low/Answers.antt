@@ -1,9 +1,6 @@
-use mathlib.Core.Path.{◌≡◌, refl, sym, ◌∙◌}
-use Prim.Native.Nat.{◌-◌, ◌≤◌}
+use mathlib.Core.Path.{sym, ◌∙◌}
 use native.Mathlib.Omega.{arith}
-use lib.ListN.{length, take, drop}
-use Rattle.rules.specs.Check.{low_label}
-use Rattle.checking.proofs.RowWalks.{low-stop, low-more, low-done}
+use Rattle.checking.proofs.RowWalks.{low-stop}
 use Rattle.checking.proofs.slots.labels_low.Goals as goal
 
 pub returns-then-label_at-mine : goal.returns-then-label_at-mine

@@ -1,9 +1,7 @@
-use mathlib.Core.Path.{◌≡◌, refl, sym, ◌∙◌}
+use mathlib.Core.Path.{◌≡◌}
 use Prim.Native.Nat.{◌-◌, ◌≤◌}
-use native.Mathlib.Omega.{arith}
 use lib.ListN.{length, take, drop}
 use Rattle.rules.specs.Check.{low_label}
-use Rattle.checking.proofs.RowWalks.{low-stop, low-more, low-done}
 use Rattle.checking.proofs.slots.labels_low.Given as goal
 
 abbrev pub invariant-loop-i : goal.invariant-loop-i

@@ -1,9 +1,6 @@
-use Prim.Native.Nat.{◌+◌, ◌≤◌, ◌<◌}
-use mathlib.Core.Path.{◌≡◌, refl, ◌∙◌}
+use mathlib.Core.Path.{◌≡◌, ◌∙◌}
 use native.Mathlib.Omega.{arith}
-use lib.ListN.{length, length-set}
-use lib.Seq.{sets}
-use Rattle.rules.specs.Text.{padded}
+use lib.ListN.{length-set}
 use Rattle.writing.proofs.Texts.{place-more, column-last}
 use Rattle.writing.proofs.text.put_column.Goals as goal
 

@@ -1,10 +1,8 @@
 use Prim.Native.Nat.{◌+◌, ◌≤◌, ◌<◌}
-use mathlib.Core.Path.{◌≡◌, refl, ◌∙◌}
-use native.Mathlib.Omega.{arith}
-use lib.ListN.{length, length-set}
+use mathlib.Core.Path.{◌≡◌}
+use lib.ListN.{length}
 use lib.Seq.{sets}
 use Rattle.rules.specs.Text.{padded}
-use Rattle.writing.proofs.Texts.{place-more, column-last}
 use Rattle.writing.proofs.text.put_column.Given as goal
 
 -- `writing::text::put_column` meets its contract. The invariant: with the places that are left stored, the whole text stands.

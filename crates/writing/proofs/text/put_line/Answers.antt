@@ -1,11 +1,11 @@
-use Prim.Native.Nat.{ℕ, ◌+◌, ◌-◌, ◌≤◌}
+use Prim.Native.Nat.{ℕ}
 use mathlib.Core.Path.{◌≡◌, ap, ◌∙◌}
 use native.Mathlib.Omega.{arith}
-use lib.ListN.{length, get_or, drop, length-set}
+use lib.ListN.{get_or}
 use lib.Seq.{sets}
-use Rattle.rules.specs.Text.{line_feed, column}
+use Rattle.rules.specs.Text.{column}
 use Rattle.rules.proofs.TextLaws.{length-text_line}
-use Rattle.writing.proofs.Texts.{Joins, joins-all, ending, line-room, feed-room, line_same, line-more, line-done}
+use Rattle.writing.proofs.Texts.{line-room, feed-room, line_same, line-more, line-done}
 use Rattle.writing.proofs.text.put_line.Goals as goal
 
 pub bounds-out-at : goal.bounds-out-at

@@ -1,11 +1,6 @@
-use Prim.Native.Nat.{ℕ, ◌+◌, ◌-◌, ◌≤◌}
-use mathlib.Core.Path.{◌≡◌, ap, ◌∙◌}
-use native.Mathlib.Omega.{arith}
-use lib.ListN.{length, get_or, drop, length-set}
-use lib.Seq.{sets}
-use Rattle.rules.specs.Text.{line_feed, column}
-use Rattle.rules.proofs.TextLaws.{length-text_line}
-use Rattle.writing.proofs.Texts.{Joins, joins-all, ending, line-room, feed-room, line_same, line-more, line-done}
+use Prim.Native.Nat.{◌+◌, ◌-◌, ◌≤◌}
+use lib.ListN.{length, drop}
+use Rattle.writing.proofs.Texts.{Joins, ending}
 use Rattle.writing.proofs.text.put_line.Given as goal
 
 -- `writing::text::put_line` meets its contract. The invariant: the columns that are left and the line feed join to the whole line.

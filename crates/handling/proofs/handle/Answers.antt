@@ -1,0 +1,11 @@
+use mathlib.Core.Path.{◌∙◌}
+use Rattle.rules.proofs.Knowing.{lines}
+use Rattle.answers.specs.Values.{state_of}
+use Rattle.checking.specs.Known.{known_of}
+use Rattle.handling.proofs.handle.Goals as goal
+
+pub returns : goal.returns
+returns c =
+    let a = c.args in
+    c.handle_known-t.ensures.handled
+    ∙ (lines (known_of c.assess-known.result) a.line.now (state_of a.board.now a.work.now a.tally) c.assess-known.ensures).same
