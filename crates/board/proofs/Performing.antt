@@ -3,7 +3,7 @@ use mathlib.Core.List.{List}
 use mathlib.Core.Path.{◌≡◌, sym, ap, ◌∙◌}
 use Prim.Native.Nat.{ℕ}
 use lib.ListN.{length}
-use borrow.Author.Tests.{eq-eqb, ne_eqb}
+use borrow.Author.Tests.{ne_eqb}
 use Rattle.rules.specs.Bringing.{answer}
 use Rattle.rules.specs.Calls.{Call, Answer, open-board, print, first, open_checks, opened, act, step}
 use Rattle.rules.specs.Known.{Known, gate_of, few_of, tidied, past_gate, perform_known, known_past, known_after}

@@ -1,22 +1,18 @@
 -- What the reader gives of a line, against the line's own call.
-use mathlib.Core.Bool.{Bool, true, false, cond}
-use mathlib.Core.List.{List, [], ◌∷◌}
-use mathlib.Core.Path.{◌≡◌, refl, sym, ap, ap₂, ◌∙◌, subst}
-use Prim.Native.Nat.{ℕ, zero, suc, ◌-◌, ◌≤◌}
+use mathlib.Core.List.{List}
+use mathlib.Core.Path.{◌≡◌, refl, sym, ap, ◌∙◌}
+use Prim.Native.Nat.{ℕ, ◌-◌}
 use native.Mathlib.Omega.{arith}
-use lib.Dec.{eqb}
-use lib.ListN.{length, get_or, take, drop, length-take, length-drop}
-use lib.Seq.{get_or-take, get_or-drop}
-use borrow.Author.Tests.{eq-eqb, ne_eqb}
-use Rattle.rules.specs.Calls.{Call, Answer, accept, open-board, withdraw}
+use lib.ListN.{length, get_or, drop}
+use borrow.Author.Tests.{ne_eqb}
+use Rattle.rules.specs.Calls.{Call, Answer}
 use Rattle.rules.specs.Known.{Known, perform_known, known_after}
 use Rattle.rules.specs.KnownLines.{asked, handle_known, known_line}
-use Rattle.rules.specs.Layout.{reads, row8, size}
-use Rattle.rules.specs.InputLines.{letter_of, column_count, values, line_refusal, call_of}
+use Rattle.rules.specs.Layout.{row8}
+use Rattle.rules.specs.InputLines.{letter_of, values, line_refusal, call_of}
 use Rattle.rules.specs.Letters.{Letter, letter_s, letter_a, letter_w, letter_p, letter_x, byte_of}
 use Rattle.rules.specs.Runs as R
 use Rattle.rules.specs.Runs.{State, unread, first_number, answered}
-use Rattle.rules.proofs.WordLaws.{reads-is}
 use Rattle.board.specs.Requests.{call_by}
 use Rattle.reading.specs.declared.Kind.{Kind}
 use Rattle.reading.specs.declared.Kind.TheVariants.{Open, Accept, Withdraw, Print, Malformed, TooLarge}

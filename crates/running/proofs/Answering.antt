@@ -21,7 +21,7 @@ use Rattle.answers.specs.declared.Handled.{Handled}
 use Rattle.answers.specs.declared.Reply.{Reply}
 use Rattle.answers.specs.declared.Tally.{Tally}
 use Rattle.answers.specs.Replies.{LeavesUnread}
-use Rattle.answers.specs.Values.{reply_of, state_of, handled_of}
+use Rattle.answers.specs.Values.{reply_of, state_of}
 use Rattle.checking.specs.declared.Known.{Known}
 use Rattle.checking.specs.Known.{known_of}
 use Rattle.handling.specs.declared.Noted.{Noted}

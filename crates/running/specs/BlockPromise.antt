@@ -1,5 +1,5 @@
 -- What a block of lines answers and leaves.
-use Rattle.std.specs.Prelude.{ℕ, ◌+◌, ◌≤◌, ◌≡◌, Bool, true, List, [], ◌++◌, length, take, drop}
+use Rattle.std.specs.Prelude.{ℕ, ◌≤◌, ◌≡◌, Bool, true, List, [], ◌++◌, length, take, drop}
 use Rattle.rules.specs.Runs.{State, items, lines_from, run, before}
 use Rattle.rules.specs.Chunks.{reply_room, waiting, Portion, block}
 use Rattle.rules.specs.Days.{KeptByLines}

@@ -8,7 +8,7 @@ use lib.ListN.{length, take, drop, length-drop, length-append}
 use lib.Seq.{drop-drop, take-nil, take_all, take-add, take_at, length-take-le}
 use lib.Dec.{eqb, ltb}
 use borrow.Author.Tests.{eqb-true, eq-eqb, le-ltb}
-use Rattle.rules.specs.Runs.{State, Out, Item, Counts, run, tally_line}
+use Rattle.rules.specs.Runs.{State, Out, Item, run, tally_line}
 use Rattle.rules.specs.Chunks.{reply_room, waiting, Portion, block}
 use Rattle.rules.specs.Serving.{answered_of, waits_of, Served}
 use Rattle.rules.proofs.Streams.{run_join}

@@ -1,6 +1,4 @@
-use mathlib.Core.Path.{sym, ap, ◌∙◌}
 use native.Mathlib.Omega.{arith}
-use Rattle.answers.specs.Numbers.{gate_number}
 use Rattle.answers.proofs.NumberLaws.{code-some}
 use Rattle.board.proofs.Performing.{opening-stops, opening-goes}
 use Rattle.board.proofs.open_board.Goals as goal

@@ -1,4 +1,4 @@
-use mathlib.Core.Path.{◌≡◌, sym, ap, ◌∙◌}
+use mathlib.Core.Path.{sym, ap, ◌∙◌}
 use Rattle.rules.specs.Known.{past_gate}
 use Rattle.board.specs.Requests.{call_by}
 use Rattle.board.specs.declared.Ask.{Ask}

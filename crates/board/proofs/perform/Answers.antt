@@ -1,8 +1,8 @@
-use mathlib.Core.Path.{◌≡◌, sym, ap, ◌∙◌}
+use mathlib.Core.Path.{◌≡◌}
 use native.Mathlib.Omega.{arith}
 use lib.ListN.{length}
 use Rattle.rules.specs.Known.{gate_of}
-use Rattle.answers.specs.Numbers.{code, gate_number, said}
+use Rattle.answers.specs.Numbers.{code, said}
 use Rattle.answers.proofs.NumberLaws.{code-some}
 use Rattle.checking.specs.Known.{known_of}
 use Rattle.board.specs.Requests.{call_for}

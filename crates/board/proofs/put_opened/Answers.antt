@@ -4,7 +4,7 @@ use lib.Seq.{sets}
 use lib.ListN.{set, replicate}
 use Prim.Native.Nat.{ℕ}
 use mathlib.Core.List.{List}
-use mathlib.Core.Path.{◌≡◌, refl, sym, ap, ◌∙◌}
+use mathlib.Core.Path.{◌≡◌, ap, ◌∙◌}
 use Rattle.board.proofs.put_opened.Goals as goal
 
 pub returns : goal.returns

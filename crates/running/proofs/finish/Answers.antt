@@ -1,5 +1,4 @@
 use native.Mathlib.Omega.{arith}
-use borrow.Author.Tests.{not-true, not-false}
 use Rattle.running.proofs.BlockTurns.{all_done, no-room-last, waits, refuses}
 use Rattle.running.proofs.finish.Goals as goal
 

@@ -1,12 +1,6 @@
-use Prim.Native.Nat.{◌+◌, ◌-◌, ◌<◌}
-use mathlib.Core.Path.{◌≡◌, ◌∙◌}
+use mathlib.Core.Path.{◌∙◌}
 use native.Mathlib.Omega.{arith}
-use lib.ListN.{length}
 use borrow.Author.Tests.{lt-ltb}
-use Rattle.rules.specs.Known.{Knows}
-use Rattle.answers.specs.Values.{state_of}
-use Rattle.checking.specs.Known.{known_of}
-use Rattle.running.specs.BlockLoop.{Turning}
 use Rattle.running.proofs.BlockTurns.{start, turn, no-room-left}
 use borrow.Author.Rules.{rules}
 use Rattle.running.proofs.run_block.Goals as goal

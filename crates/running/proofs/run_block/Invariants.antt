@@ -1,13 +1,10 @@
-use Prim.Native.Nat.{◌+◌, ◌-◌, ◌<◌}
-use mathlib.Core.Path.{◌≡◌, ◌∙◌}
-use native.Mathlib.Omega.{arith}
+use Prim.Native.Nat.{◌-◌, ◌<◌}
+use mathlib.Core.Path.{◌≡◌}
 use lib.ListN.{length}
-use borrow.Author.Tests.{lt-ltb}
 use Rattle.rules.specs.Known.{Knows}
 use Rattle.answers.specs.Values.{state_of}
 use Rattle.checking.specs.Known.{known_of}
 use Rattle.running.specs.BlockLoop.{Turning}
-use Rattle.running.proofs.BlockTurns.{start, turn, no-room-left}
 use Rattle.running.proofs.run_block.Given as goal
 
 -- `running::run_block` meets its contract. The invariant: what is left to do, the block of what is left of the input, joins to the whole; and what is known of board and work words is true.

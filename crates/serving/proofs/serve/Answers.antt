@@ -1,4 +1,4 @@
-use Rattle.std.proofs.Common.{◌≤◌, length, take, arith, ⊎_elim}
+use Rattle.std.proofs.Common.{take, arith, ⊎_elim}
 use Rattle.answers.specs.Values.{counts_of}
 use Rattle.serving.proofs.Steps.{closes}
 use Rattle.serving.proofs.serve.Goals as goal
