@@ -27,7 +27,7 @@ fn main(rt: HostRuntime) -> io::Result<()> {
     let mut board = [0u16; 11300];
     let mut work = [0u16; 13400];
     let mut own = [0u16; 11400];
-    let n = read_all(&rt, &mut text)?;
+    let n = read_all(&rt, &mut text);
     script::run(&rt, &text[..n], &mut board, &mut work, &mut own)?;
     say(&rt, b"all")?;
     say_tally(&rt, &own, ALL_TRIED, ALL_WRONG)

@@ -1,6 +1,5 @@
 // Standard input in lines, the numbers of a line, and what is printed.
 ghost use Rattle.std.specs.Prelude.{◌≡◌, ◌-◌, ◌≤◌, max, length, get_or};
-ghost use Rattle.std.specs.Io.{ReadsAtMost};
 ghost use Rattle.trial_kit.specs.Texts.{line_end, is_digit, next_place, after_byte, places, spelt};
 ghost use Rattle.trial_kit.specs.Texts.{longer as longer_by};
 
@@ -12,20 +11,26 @@ use std::io::Read;
 // Where a line's numbers go once it says `>`.
 const EXPECTED: u16 = 32;
 
-// All of standard input, as far as there is room: how many bytes. `IsPrefixLen`, of which `ReadsAtMost` is made, is what lending them needs.
-pub fn read_all(rt: &impl Input, text: &mut [u8]) -> io::Result<usize>
-    ensures { ReadsAtMost result text.new }
+// All of standard input, as far as there is room: how many bytes. A read that fails is the input's end.
+pub fn read_all(rt: &impl Input, text: &mut [u8]) -> usize
+    ensures { IsPrefixLen result text.new }
 {
     let mut input = rt.reader();
     let mut done: usize = 0;
     while done < text.len() {
-        let n = input.read(&mut text[done..])?;
-        if n == 0 {
-            break;
+        match input.read(&mut text[done..]) {
+            Ok(n) => {
+                if n == 0 {
+                    break;
+                }
+                done += n;
+            }
+            Err(_) => {
+                break;
+            }
         }
-        done += n;
     }
-    Ok(done)
+    done
 }
 
 // The index of the first line feed at or after `from`, or the length where there is none.

@@ -11,42 +11,19 @@ use Rattle.answers.specs.Numbers.{gate_number}
 use Rattle.orders.proofs.Verdicts.{fine}
 use Rattle.accepting.proofs.gate_order.Goals as goal
 
-judged : (c : goal.Then-find-ne0) → let a = c.args in gate_number c.judge-g.result ≡ first (order_checks (size a.board.now) a.number a.count a.row [])
-judged c =
-    let a = c.args in
-    c.judge-g.ensures ∙ ap (λ (n : ℕ). first (order_checks n a.number a.count a.row [])) c.size_of-n.ensures
-
--- none of 7 to 10 turns the order down: so 11 decides, by what the look finds
-decides : (c : goal.Then-find-ne0) → let a = c.args in
-    cond (not (eqb c.find.result 0)) 11 0 ≡ first (late (accept a.number a.count a.row) a.board.now)
-decides c =
-    let a = c.args in
-    let w = a.board.now in
-    let last : List Check = (11, is_held a.number w) ∷ [] in
-    let pass : 0 ≡ first (order_checks (size w) a.number a.count a.row []) = sym (ap gate_number c.in-Passed.is) ∙ judged c in
-    let slot : c.find.result ≡ slot_of a.number w = c.find.ensures ∙ ap (λ (n : ℕ). find_from w a.number n 1) c.size_of-n.ensures in
-    ap (λ (s : ℕ). cond (not (eqb s 0)) 11 0) slot ∙ ap (λ (b : Bool). cond b 11 0) (sym (held_found a.number w))
-    ∙ sym (fine (size w) a.number a.count a.row pass last)
+module _ (k c : ℕ) (row w : List ℕ) {n slot : ℕ} (all : n ≡ size w) (found : slot ≡ find_from w k n 1) (pass : 0 ≡ first (order_checks n k c row [])) where
+  -- none of 7 to 10 turns the order down: so 11 decides, by what the look finds
+  decides : cond (not (eqb slot 0)) 11 0 ≡ first (late (accept k c row) w)
+  decides =
+      let last : List Check = (11, is_held k w) ∷ [] in
+      let judged : 0 ≡ first (order_checks (size w) k c row []) = pass ∙ ap (λ (m : ℕ). first (order_checks m k c row [])) all in
+      let looked : slot ≡ slot_of k w = found ∙ ap (λ (m : ℕ). find_from w k m 1) all in
+      ap (λ (s : ℕ). cond (not (eqb s 0)) 11 0) looked ∙ ap (λ (b : Bool). cond b 11 0) (sym (held_found k w)) ∙ sym (fine (size w) k c row judged last)
 
 pub returns-then-find-ne0 : goal.returns-then-find-ne0
-returns-then-find-ne0 c = ap (λ (b : Bool). cond (not b) 11 0) (sym (ne_eqb c.find.result 0 c.if-find-ne0.true)) ∙ decides c
-
-judged-2 : (c : goal.Else-find-ne0) → let a = c.args in gate_number c.judge-g.result ≡ first (order_checks (size a.board.now) a.number a.count a.row [])
-judged-2 c =
-    let a = c.args in
-    c.judge-g.ensures ∙ ap (λ (n : ℕ). first (order_checks n a.number a.count a.row [])) c.size_of-n.ensures
-
--- none of 7 to 10 turns the order down: so 11 decides, by what the look finds
-decides-2 : (c : goal.Else-find-ne0) → let a = c.args in
-    cond (not (eqb c.find.result 0)) 11 0 ≡ first (late (accept a.number a.count a.row) a.board.now)
-decides-2 c =
-    let a = c.args in
-    let w = a.board.now in
-    let last : List Check = (11, is_held a.number w) ∷ [] in
-    let pass : 0 ≡ first (order_checks (size w) a.number a.count a.row []) = sym (ap gate_number c.in-Passed.is) ∙ judged-2 c in
-    let slot : c.find.result ≡ slot_of a.number w = c.find.ensures ∙ ap (λ (n : ℕ). find_from w a.number n 1) c.size_of-n.ensures in
-    ap (λ (s : ℕ). cond (not (eqb s 0)) 11 0) slot ∙ ap (λ (b : Bool). cond b 11 0) (sym (held_found a.number w))
-    ∙ sym (fine (size w) a.number a.count a.row pass last)
+returns-then-find-ne0 c =
+    ap (λ (b : Bool). cond (not b) 11 0) (sym (ne_eqb c.find.result 0 c.if-find-ne0.true)) ∙ decides c.args.number c.args.count c.args.row c.args.board.now c.size_of-n.ensures c.find.ensures c.in-Passed.ensures
 
 pub returns-in-Passed : goal.returns-in-Passed
-returns-in-Passed c = ap (λ (b : Bool). cond (not b) 11 0) (sym (eq-eqb c.find.result 0 c.if-find-ne0.false)) ∙ decides-2 c
+returns-in-Passed c =
+    ap (λ (b : Bool). cond (not b) 11 0) (sym (eq-eqb c.find.result 0 c.if-find-ne0.false)) ∙ decides c.args.number c.args.count c.args.row c.args.board.now c.size_of-n.ensures c.find.ensures c.in-Passed.ensures
