@@ -1,5 +1,6 @@
 // Standard input in lines, the numbers of a line, and what is printed.
 ghost use Rattle.std.specs.Prelude.{◌≡◌, ◌-◌, ◌≤◌, max, length, get_or};
+ghost use Rattle.trial_kit.specs.Words.{IsPrefixLen};
 ghost use Rattle.trial_kit.specs.Texts.{line_end, is_digit, next_place, after_byte, places, spelt};
 ghost use Rattle.trial_kit.specs.Texts.{longer as longer_by};
 

@@ -7,7 +7,6 @@ use borrow.Author.Tests.{eq-eqb, ne_eqb}
 use Rattle.rules.specs.Calls.{Check, first, order_checks, is_held, find_from, slot_of, late, accept}
 use Rattle.rules.specs.Layout.{size}
 use Rattle.rules.proofs.Finding.{held_found}
-use Rattle.answers.specs.Numbers.{gate_number}
 use Rattle.orders.proofs.Verdicts.{fine}
 use Rattle.accepting.proofs.gate_order.Goals as goal
 

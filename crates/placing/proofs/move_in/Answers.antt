@@ -1,5 +1,4 @@
 use native.Mathlib.Omega.{arith}
-use lib.ListN.{length}
 use Rattle.words.proofs.OpenSlots.{few}
 use Rattle.placing.proofs.Moving.{stays, moves}
 use Rattle.placing.proofs.move_in.Goals as goal

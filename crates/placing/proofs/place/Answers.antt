@@ -1,6 +1,6 @@
 use mathlib.Core.List.{List}
 use mathlib.Core.Path.{◌≡◌, sym, ap, ◌∙◌}
-use Prim.Native.Nat.{ℕ, suc, ◌-◌, ◌*◌}
+use Prim.Native.Nat.{ℕ, suc, ◌*◌}
 use Rattle.matching.specs.Placing.{follow}
 use Rattle.rules.specs.Layout.{view, write_at}
 use Rattle.words.specs.Carried.{carried}

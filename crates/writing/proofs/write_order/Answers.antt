@@ -1,9 +1,6 @@
-use mathlib.Core.List.{[]}
-use mathlib.Core.Path.{◌≡◌}
 use Prim.Native.Nat.{◌≤◌}
 use native.Mathlib.Omega.{arith}
-use Rattle.rules.specs.Calls.{first, order_checks}
-use Rattle.rules.specs.Layout.{most_slots, most_choices}
+use Rattle.rules.specs.Layout.{most_choices}
 use Rattle.writing.proofs.Orders.{refuses-fault, few, refuses-4, order-room, writes}
 use Rattle.writing.proofs.write_order.Goals as goal
 
