@@ -16,4 +16,4 @@ pub returns-then-number_at-eq-NO_ORDER : goal.returns-then-number_at-eq-NO_ORDER
 returns-then-number_at-eq-NO_ORDER c =
     let a = c.args in
     λ _. own-hit a.x (eight c) c.open_of-choices.result c.open_of-choices.ensures a.n a.board.now c.loop-i.i c.loop-i-test.true (omega (arith, c.loop-i.invariant.1, c.loop-i.invariant.2))
-    c.if-t-ne-NO_SLOT.true c.if-t-n.true (sym c.number_at.ensures ∙ c.if-number_at-eq-NO_ORDER.true)
+    c.if-t-ne-NO_SLOT.true (omega arith) (sym c.number_at.ensures ∙ c.if-number_at-eq-NO_ORDER.true)
