@@ -89,6 +89,7 @@ struct LineRead {
 }
 
 // Each letter has its own allowed count of columns.
+#[tactic(auto, unfolding(rules::specs::Letters::letter_named))]
 fn classify(letter: u8, count: usize) -> Kind
     ensures { result ≡ class_of (letter_named letter) count }
 {
