@@ -7,8 +7,9 @@ use native.Mathlib.Omega.{arith}
 use lib.Dec.{eqb}
 use Rattle.rules.specs.Known.{shown_by}
 use Rattle.answers.specs.Numbers.{code, shown_of, said}
-use Rattle.answers.specs.declared.Answer.{Answer}
-use Rattle.answers.specs.declared.Answer.TheVariants as answer
+use Rattle.std.specs.Prelude.{Result, Ok, Err}
+use Rattle.answers.specs.declared.Rejection.{Rejection}
+use Rattle.answers.specs.declared.Rejection.TheVariants.{Refused, Blocked, Undecided}
 use Rattle.answers.specs.declared.Refusal.{Refusal}
 use Rattle.answers.specs.declared.Refusal.TheVariants.{Malformed, TooLarge, BadSize, Short, Unsound, LittleWork, NumberZero, BadCount, OffBoard, NotRising, HeldAlready, NotHeld}
 
@@ -32,8 +33,8 @@ shows-none : (b : Bool) → ◌≡◌ {A = ℕ} 0 (cond b 0 0)
 shows-none true = refl
 shows-none false = refl
 
-pub shown-is : (a : Answer) (w work : List ℕ) → shown_of a ≡ shown_by (said a w work)
-shown-is (answer.Accepted k) w work = refl
-shown-is (answer.Refused r) w work = shows-none (eqb (code r) 12)
-shown-is (answer.Blocked s) w work = refl
-shown-is answer.Undecided w work = refl
+pub shown-is : (a : Result ℕ Rejection) (w work : List ℕ) → shown_of a ≡ shown_by (said a w work)
+shown-is (Ok k) w work = refl
+shown-is (Err (Refused r)) w work = shows-none (eqb (code r) 12)
+shown-is (Err (Blocked s)) w work = refl
+shown-is (Err Undecided) w work = refl
