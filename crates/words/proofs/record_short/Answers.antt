@@ -1,7 +1,5 @@
-use native.Mathlib.Omega.{arith}
-use Rattle.words.proofs.Copies.{done}
+use Rattle.words.proofs.Copies.{copied}
 use Rattle.words.proofs.record_short.Goals as goal
 
 pub returns : goal.returns
-returns c =
-    done 11 c.args.board.now c.args.at c.loop-k.out c.loop-k.k c.loop-k.invariant (omega (arith, c.loop-k-test.false))
+returns c = copied c.args.board.now c.copy_from_slice.new.self c.args.at c.min.result c.min-few.result 11 c.min.ensures c.min-few.ensures c.copy_from_slice.ensures.after
