@@ -1,17 +1,12 @@
--- Laws of where a line ends: at a line feed, past another byte, behind the last byte; and what that says of the bytes before it.
-use Prim.Native.Nat.{ℕ, zero, suc, ◌+◌, ◌≤◌, ◌<◌}
-use mathlib.Core.Path.{◌≡◌, sym, ap, ◌∙◌}
-use mathlib.Core.List.{List, [], ◌∷◌}
-use mathlib.Core.Bool.{false}
-use native.Mathlib.Omega.{arith}
-use native.Mathlib.Numerals.{add-one}
-use lib.Dec.{eqb}
-use lib.ListN.{length, get_or, drop, length-drop}
-use lib.Seq.{drop-cons, get_or-drop}
-use borrow.Author.Tests.{eq-eqb, ne_eqb, eqb-true, eqb-false}
+-- Laws of where a line ends: within the bytes, at a line feed, and at the first one.
+use Rattle.std.proofs.Common.{◌≡◌, ℕ, zero, suc, ◌+◌, ◌≤◌, ◌<◌, false, true, List, [], ◌∷◌, None, Some, eqb, length, get_or, take, drop, refl, sym, ap, ◌∙◌, arith, length-drop}
+use Rattle.std.specs.List.{slice_range}
+use Rattle.std.proofs.Math.Seq.{get_or-drop, take-length}
+use Rattle.std.proofs.lemmas.Bool.{eq-eqb, ne_eqb, eqb-true, eqb-false, lt-ltb, le-ltb}
+use Rattle.memchr.specs.Find.{Nowhere, NoneBefore, Passes, is_byte}
 use Rattle.rules.specs.Text.{line_feed}
 use Rattle.rules.proofs.Cutting.{either}
-use Rattle.framing.specs.Ends.{before_feed, line_end}
+use Rattle.framing.specs.Ends.{before_feed, line_end, feed_from}
 
 before-within : (l : List ℕ) → before_feed l ≤ length l
 before-within [] = omega arith
@@ -33,17 +28,16 @@ before-none [] k = λ h _. omega arith
 before-none (b ∷ l) k =
     either (eqb b line_feed) (λ e. rw e (λ h _. omega arith)) (λ e. rw e (later-none b l e (before-none l) k))
 
+before-all : (l : List ℕ) → ((k : ℕ) → k < length l → get_or l k 0 ≡ line_feed → ⊥) → before_feed l ≡ length l
+before-all [] h = refl
+before-all (b ∷ l) h = rw (ne_eqb b line_feed (h 0 (omega arith))) (ap suc (before-all l (λ k low. h (suc k) (omega arith))))
+
+before-is : (l : List ℕ) (k : ℕ) → k < length l → get_or l k 0 ≡ line_feed → ((j : ℕ) → j < k → get_or l j 0 ≡ line_feed → ⊥) → before_feed l ≡ k
+before-is [] k low e h = absurd (omega arith)
+before-is (b ∷ l) zero low e h = rw (eq-eqb b line_feed e)
+before-is (b ∷ l) (suc k) low e h = rw (ne_eqb b line_feed (h 0 (omega arith))) (ap suc (before-is l k (omega arith) e (λ j under. h (suc j) (omega arith))))
+
 module _ (s : List ℕ) (i : ℕ) where
-  pub end-here : i < length s → get_or s i 0 ≡ line_feed → line_end s i ≡ i
-  end-here h e = rw (drop-cons s i 0 h, eq-eqb (get_or s i 0) line_feed e) (omega arith)
-
-  pub end-next : i < length s → (get_or s i 0 ≡ line_feed → ⊥) → line_end s i ≡ line_end s (i + 1)
-  end-next h n =
-      rw (drop-cons s i 0 h, ne_eqb (get_or s i 0) line_feed n) (omega (arith, ap (λ (k : ℕ). before_feed (drop k s)) (add-one i)))
-
-  pub end-past : length s ≤ i → line_end s i ≡ i
-  end-past h = omega (arith, before-within (drop i s), length-drop i s)
-
   pub end-within : i ≤ length s → line_end s i ≤ length s
   end-within h = omega (arith, before-within (drop i s), length-drop i s)
 
@@ -54,6 +48,19 @@ module _ (s : List ℕ) (i : ℕ) where
   pub end-first : (k : ℕ) → i + k < line_end s i → get_or s (i + k) 0 ≡ line_feed → ⊥
   end-first k h e = before-none (drop i s) k (omega arith) (get_or-drop i s k 0 ∙ e)
 
--- past the byte at j the line goes on to the next
-pub end-over : (s : List ℕ) (i j k : ℕ) → line_end s j ≡ line_end s i → j < length s → (get_or s j 0 ≡ line_feed → ⊥) → k ≡ j + 1 → line_end s k ≡ line_end s i
-end-over s i j k e h n q = ap (λ (l : ℕ). line_end s l) q ∙ sym (end-next s j h n) ∙ e
+  -- what a search of the bytes from i on answers
+  module _ (l : List ℕ) (rest : l ≡ slice_range s i (length s)) (within : i ≤ length s) where
+    bytes : l ≡ drop i s
+    bytes = rest ∙ ap (λ (k : ℕ). take k (drop i s)) (sym (length-drop i s)) ∙ take-length (drop i s)
+
+    pub feed_none : Nowhere (Passes (is_byte line_feed) l) 0 (length l) → None ≡ feed_from s i
+    feed_none h =
+        let all : before_feed (drop i s) ≡ length (drop i s) = rw (← bytes) (before-all l (λ k low e. h k (omega arith) low (eq-eqb (get_or l k 0) line_feed e))) in
+        rw (le-ltb (line_end s i) (length s) (omega (arith, length-drop i s)))
+
+    pub feed_some : (k : ℕ) → NoneBefore (Passes (is_byte line_feed) l) 0 (length l) k → is_byte line_feed (get_or l k 0) ≡ true → Some (i + k) ≡ feed_from s i
+    feed_some k h e =
+        let below = h.high in
+        let first : before_feed (drop i s) ≡ k = rw (← bytes) (before-is l k below (eqb-true (get_or l k 0) line_feed e) (λ j low f. h.before j (omega arith) low (eq-eqb (get_or l j 0) line_feed f))) in
+        let low : i + k < length s = omega (arith, length-drop i s, ap length bytes) in
+        rw (first, lt-ltb (i + k) (length s) low)
