@@ -1,84 +1,54 @@
 // The checks of an order that need no board, 7 to 10 of document 01: the calls and the order writer share them.
 #![tactic(auto)]
 
-ghost use Rattle.std.specs.Prelude.{◌≡◌, [], min, take};
+ghost use Rattle.std.specs.Prelude.{◌≡◌, []};
 ghost use Rattle.matching.specs.Lists.{rising};
 ghost use Rattle.rules.specs.Calls.{first, on_board, order_checks};
-ghost use Rattle.rules.specs.Layout.{most_choices};
 ghost use Rattle.answers.specs.Numbers.{gate_number};
 
-use answers::{Gate, Refusal};
+use answers::Refusal;
+use words::{MOST_CHOICES, Order};
 
-const MOST_CHOICES: usize = 8;
-
-// How many of a row's eight places `count` takes.
-fn places(count: usize) -> usize
-    ensures { result ≡ min count most_choices }
+// Each slot of the list is 1 to n.
+fn within(n: u16, list: &[u16]) -> bool
+    ensures { result ≡ on_board n list.now }
 {
-    if count < MOST_CHOICES {
-        count
-    } else {
-        MOST_CHOICES
-    }
+    list.iter().all(|&t| 1 <= t && t <= n)
 }
 
-// Each of the first `count` is 1 to n.
-fn row_within(n: u16, count: usize, row: [u16; 8]) -> bool
-    ensures { result ≡ on_board n (take count row) }
+// The list rises strictly, within 1 to n.
+pub fn rises(n: u16, list: &[u16]) -> bool
+    ensures { result ≡ rising n 0 list.now }
 {
-    let end = places(count);
-    let mut i: usize = 0;
-    while i < end {
-        if row[i] == 0 {
+    let mut last = 0;
+    for &t in list {
+        if t <= last || n < t {
             return false;
         }
-        if n < row[i] {
-            return false;
-        }
-        i += 1;
-    }
-    true
-}
-
-// The first `count` rise strictly, within 1 to n.
-pub fn row_rises(n: u16, count: usize, row: [u16; 8]) -> bool
-    ensures { result ≡ rising n 0 (take count row) }
-{
-    let end = places(count);
-    let mut last: u16 = 0;
-    let mut i: usize = 0;
-    while i < end {
-        if row[i] <= last {
-            return false;
-        }
-        if n < row[i] {
-            return false;
-        }
-        last = row[i];
-        i += 1;
+        last = t;
     }
     true
 }
 
 // The verdict on an order for a board of n slots: the first of the checks 7 to 10 that turns it down.
-pub fn judge(n: u16, number: u16, count: u16, row: [u16; 8]) -> Gate
-    ensures { gate_number result ≡ first (order_checks n number count row []) }
+#[tactic(auto, using(crate::proofs::Rows::verdicts))]
+pub fn judge(n: u16, order: &Order) -> Result<(), Refusal>
+    ensures { gate_number result
+        ≡ first (order_checks n order.now.number order.now.count order.now.row []) }
 {
-    if number == 0 {
-        return Gate::Refused(Refusal::NumberZero);
+    if order.number == 0 {
+        return Err(Refusal::NumberZero);
     }
-    let c = count as usize;
-    if c == 0 {
-        return Gate::Refused(Refusal::BadCount);
+    let count = usize::from(order.count);
+    if !(1..=MOST_CHOICES).contains(&count) {
+        return Err(Refusal::BadCount);
     }
-    if MOST_CHOICES < c {
-        return Gate::Refused(Refusal::BadCount);
+    let list = order.list();
+    if !within(n, list) {
+        return Err(Refusal::OffBoard);
     }
-    if !row_within(n, c, row) {
-        return Gate::Refused(Refusal::OffBoard);
+    if !rises(n, list) {
+        return Err(Refusal::NotRising);
     }
-    if !row_rises(n, c, row) {
-        return Gate::Refused(Refusal::NotRising);
-    }
-    Gate::Passed
+    Ok(())
 }
