@@ -1,5 +1,6 @@
 pub mod ColumnLaws
-pub mod ReaderCases
-pub mod ReaderLaws
+pub mod ColumnsLaws
+pub mod NumberLaws
 pub mod LineLaws
 pub mod LineUses
+pub mod ReaderCases
