@@ -1,8 +1,7 @@
+pub mod Columns
 pub mod Texts
+pub mod Lines
 pub mod Puts
-pub mod Rows
-pub mod Blocked
-pub mod Plan
-pub mod ReplyTexts
+pub mod Replies
 pub mod Closing
 pub mod Orders

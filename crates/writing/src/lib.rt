@@ -3,171 +3,122 @@
 
 mod text;
 
-ghost use Rattle.std.specs.Prelude.{◌≡◌, [], ◌∷◌, ◌++◌, ◌+◌, ◌≤◌, ◌<◌, leb, length, take};
-ghost use Rattle.rules.specs.InputLines.{column_bytes, order_line, written};
-ghost use Rattle.rules.specs.AnswerLines.{
-  answer_bytes,
-  slots_per_line,
-  printed,
-  blocked_lines,
-  slot_lines,
-  following,
-  reply_text,
-};
-ghost use Rattle.rules.specs.Layout.{most_choices};
+ghost use Rattle.std.specs.Prelude.{◌≡◌, ◌+◌, ◌-◌, ◌^◌, min, leb, length};
+ghost use Rattle.rules.specs.InputLines.{written};
+ghost use Rattle.rules.specs.AnswerLines.{blocked_lines, slot_lines, following, reply_text};
 ghost use Rattle.answers.specs.Values.{reply_of};
-ghost use Rattle.writing.specs.Writing.{Puts, three_bytes};
+ghost use Rattle.writing.specs.Writing.{Puts};
 ghost use Rattle.writing.specs.Closing.{Closes};
 ghost use Rattle.writing.specs.Wrote.{wrote_of};
-ghost use Rattle.writing.specs.Storing.{Room, Stores, blocked_line, slot_line, answer_line};
+ghost use Rattle.writing.specs.Storing.{Room, Stores, lines_of};
 
-use answers::{Gate, Refusal, Reply, Tally, blocked};
+use answers::{Refusal, Reply, Tally, blocked};
 use orders::judge;
-use text::{
-    ANSWER_WIDTH, FRAME, ORDER_WIDTH, PER_LINE, fits, least, lines_fit, put_column, put_line, wide,
-};
-use words::{MOST_SLOTS, label_at, number_at, size_of};
-
-// A line of three columns: an answer, an L line, the N line.
-const THREE_BYTES: usize = FRAME + 3 * ANSWER_WIDTH;
+use text::{ANSWER_WIDTH, Cursor, FRAME, ORDER_WIDTH, PER_LINE, THREE_BYTES};
+use words::{MOST_SLOTS, Order, size_of};
 
 // The line of an order without slots: its letter, its number, its line feed.
 const NUMBER_BYTES: usize = FRAME + ORDER_WIDTH;
 
 // The refusal that blocked slots follow.
-const NO_SLOT: u16 = 12;
+const BLOCKED: u16 = 12;
 
-// The count of bytes written, or why nothing was.
+// The lines that follow an answer line: K lines of these slots, L lines of this board, or none.
 #[derive(Clone, Copy)]
-pub enum Wrote {
-    Written(usize),
-    Refused(Refusal),
+enum Following<'a> {
+    Blocked(&'a [u16]),
+    Plan(&'a [u16]),
+    Nothing,
 }
 
-// The K line of the slots from number i on, up to eight of them.
-fn put_blocked_line(out: &mut [u8], at: usize, blocked: &[u16], i: usize) -> usize
-    requires { (i < length blocked.now) × Room out.old at answer_bytes (blocked_line blocked.now i) }
-    ensures { Stores out.old at (blocked_line blocked.now i) result out.new }
+impl<'a> Following<'a> {
+    // Those of a reply, from the board and the work words that its call left.
+    fn of(reply: Reply, board: &'a [u16], work: &'a [u16]) -> Following<'a>
+        ensures { lines_of result ≡ following (reply_of reply) board.now work.now }
+    {
+        match (reply.refusal, reply.letter) {
+            // A `usize` has 64 bits, but no `From<u64>`.
+            (BLOCKED, _) => Following::Blocked(blocked(work, reply.count as usize)),
+            (0, b'P') => Following::Plan(board),
+            _ => Following::Nothing,
+        }
+    }
+
+    // Their bytes, as far as they can be counted.
+    #[tactic(auto, using(crate::proofs::Lines::sizes))]
+    fn size(self) -> usize
+        ensures { result ≡ min (length (lines_of self.entry)) (2 ^ 64 - 1) }
+    {
+        match self {
+            Following::Blocked(slots) => {
+                let n = slots.len();
+                let frames = FRAME * n.div_ceil(PER_LINE);
+                ANSWER_WIDTH.saturating_mul(n).saturating_add(frames)
+            }
+            Following::Plan(board) => THREE_BYTES * usize::from(size_of(board)),
+            Following::Nothing => 0,
+        }
+    }
+
+    fn put(self, cursor: &mut Cursor<'_>)
+        requires { Room cursor.old (length (lines_of self)) }
+        ensures { Stores cursor.old (lines_of self.entry) cursor.new }
+    {
+        match self {
+            Following::Blocked(slots) => cursor.blocked_lines(slots),
+            Following::Plan(board) => cursor.slot_lines(board),
+            Following::Nothing => {}
+        }
+    }
+}
+
+// A text of `size` bytes has room from `at` on.
+fn fits(out: &[u8], at: usize, size: usize) -> bool
+    ensures { result ≡ leb (at + size) (length out.now) }
 {
-    let end = i + least(PER_LINE, blocked.len() - i);
-    put_line(out, at, ANSWER_WIDTH, b'K', &blocked[i..end])
+    out.get(at..).is_some_and(|room| size <= room.len())
+}
+
+// All of the lines, or nothing.
+fn put_lines(out: &mut [u8], at: usize, lines: Following<'_>) -> usize
+    ensures { Puts out.old at (lines_of lines.entry) result out.new }
+{
+    if !fits(out, at, lines.size()) {
+        return at;
+    }
+    let mut cursor = Cursor { out, at };
+    lines.put(&mut cursor);
+    cursor.at
 }
 
 // The K lines: the blocked slots, eight to a line.
 pub fn put_blocked(out: &mut [u8], at: usize, blocked: &[u16]) -> usize
     ensures { Puts out.old at (blocked_lines blocked.now) result out.new }
 {
-    let n = blocked.len();
-    if !lines_fit(out.len(), at, n) {
-        return at;
-    }
-    let mut end = at;
-    let mut i: usize = 0;
-    while i < n {
-        end = put_blocked_line(out, end, blocked, i);
-        i += PER_LINE;
-    }
-    end
-}
-
-// A line of three columns, without a loop: most of what is printed.
-fn put_three(out: &mut [u8], at: usize, letter: u8, a: u64, b: u64, c: u64) -> usize
-    requires { at + three_bytes ≤ length out.old }
-    ensures { Stores out.old at (printed letter (a ∷ b ∷ c ∷ [])) result out.new }
-{
-    out[at] = letter;
-    put_column(out, at + 1, ANSWER_WIDTH, a);
-    put_column(out, at + 1 + ANSWER_WIDTH, ANSWER_WIDTH, b);
-    put_column(out, at + 1 + 2 * ANSWER_WIDTH, ANSWER_WIDTH, c);
-    out[at + 1 + 3 * ANSWER_WIDTH] = b'\n';
-    at + THREE_BYTES
-}
-
-// The L line of slot s.
-fn put_slot_line(out: &mut [u8], at: usize, board: &[u16], s: u16) -> usize
-    requires { at + three_bytes ≤ length out.old }
-    ensures { Stores out.old at (slot_line board.now s) result out.new }
-{
-    let number = number_at(board, s);
-    let label = label_at(board, s);
-    put_three(out, at, b'L', wide(s), wide(number), wide(label))
+    put_lines(out, at, Following::Blocked(blocked))
 }
 
 // The L lines: one per slot.
 pub fn put_plan(out: &mut [u8], at: usize, board: &[u16]) -> usize
     ensures { Puts out.old at (slot_lines board.now) result out.new }
 {
-    let n = size_of(board);
-    if !fits(out.len(), at, THREE_BYTES * n as usize) {
-        return at;
-    }
-    let mut end = at;
-    let mut k: u16 = 0;
-    while k < n {
-        end = put_slot_line(out, end, board, k + 1);
-        k += 1;
-    }
-    end
-}
-
-// The answer line of a reply.
-fn put_answer_line(out: &mut [u8], at: usize, reply: Reply) -> usize
-    requires { at + three_bytes ≤ length out.old }
-    ensures { Stores out.old at (answer_line reply) result out.new }
-{
-    let number = wide(reply.number);
-    let refusal = wide(reply.refusal);
-    put_three(out, at, reply.letter, number, refusal, reply.count)
-}
-
-// The answer line with the lines that follow it goes to `at` of a buffer of `len` bytes.
-fn reply_fits(reply: Reply, board: &[u16], work: &[u16], len: usize, at: usize) -> bool
-    ensures { result ≡ leb (at + length (reply_text (reply_of reply) board.now work.now)) len }
-{
-    if !fits(len, at, THREE_BYTES) {
-        return false;
-    }
-    let refusal = reply.refusal;
-    if refusal == NO_SLOT {
-        let shown = blocked(work, reply.count as usize);
-        return lines_fit(len, at + THREE_BYTES, shown.len());
-    }
-    if refusal != 0 {
-        return true;
-    }
-    if reply.letter != b'P' {
-        return true;
-    }
-    fits(len, at + THREE_BYTES, THREE_BYTES * size_of(board) as usize)
-}
-
-// The lines that follow an answer line.
-fn put_following(reply: Reply, board: &[u16], work: &[u16], out: &mut [u8], at: usize) -> usize
-    ensures { Puts out.old at (following (reply_of reply) board.now work.now) result out.new }
-{
-    let refusal = reply.refusal;
-    if refusal == NO_SLOT {
-        let shown = blocked(work, reply.count as usize);
-        return put_blocked(out, at, shown);
-    }
-    if refusal != 0 {
-        return at;
-    }
-    if reply.letter != b'P' {
-        return at;
-    }
-    put_plan(out, at, board)
+    put_lines(out, at, Following::Plan(board))
 }
 
 // The answer line with the lines that follow it: all of them, or nothing.
 pub fn put_reply(reply: Reply, board: &[u16], work: &[u16], out: &mut [u8], at: usize) -> usize
     ensures { Puts out.old at (reply_text (reply_of reply) board.now work.now) result out.new }
 {
-    if !reply_fits(reply, board, work, out.len(), at) {
+    let lines = Following::of(reply, board, work);
+    if !fits(out, at, lines.size().saturating_add(THREE_BYTES)) {
         return at;
     }
-    let end = put_answer_line(out, at, reply);
-    put_following(reply, board, work, out, end)
+    let mut cursor = Cursor { out, at };
+    let number = u64::from(reply.number);
+    let refusal = u64::from(reply.refusal);
+    cursor.three_columns(reply.letter, number, refusal, reply.count);
+    lines.put(&mut cursor);
+    cursor.at
 }
 
 // The N line, at the start of the room.
@@ -177,50 +128,26 @@ pub fn close(t: Tally, out: &mut [u8]) -> usize
     if out.len() < THREE_BYTES {
         return 0;
     }
-    put_three(
-        out,
-        0,
+    let mut cursor = Cursor { out, at: 0 };
+    cursor.three_columns(
         b'N',
-        t.lines as u64,
-        t.accepted as u64,
-        t.refused as u64,
-    )
-}
-
-// The columns of an order's line: its number, then its row.
-fn order_values(number: u16, row: [u16; 8]) -> [u16; 9]
-    ensures { result ≡ number ∷ row }
-{
-    [
-        number, row[0], row[1], row[2], row[3], row[4], row[5], row[6], row[7],
-    ]
-}
-
-// The A line of an order, 8 bytes and 6 more per slot.
-fn put_order_line(buffer: &mut [u8], number: u16, count: usize, row: [u16; 8]) -> usize
-    requires { (count ≤ most_choices) × Room buffer.old 0 column_bytes (order_line number (take count row)) }
-    ensures { Stores buffer.old 0 (order_line number (take count row)) result buffer.new }
-{
-    let values = order_values(number, row);
-    put_line(buffer, 0, ORDER_WIDTH, b'A', &values[..count + 1])
+        u64::from(t.lines),
+        u64::from(t.accepted),
+        u64::from(t.refused),
+    );
+    cursor.at
 }
 
 // The order writer. Refused, it writes nothing.
-pub fn write_order(buffer: &mut [u8], number: u16, count: u16, row: [u16; 8]) -> Wrote
-    ensures { wrote_of result buffer.new ≡ written number count row buffer.old }
+pub fn write_order(buffer: &mut [u8], order: &Order) -> Result<usize, Refusal>
+    ensures { wrote_of result buffer.new
+        ≡ written order.now.number order.now.count order.now.row buffer.old }
 {
-    let gate = judge(MOST_SLOTS, number, count, row);
-    match gate {
-        Gate::Refused(why) => {
-            return Wrote::Refused(why);
-        }
-        Gate::Passed => {
-            let c = count as usize;
-            if buffer.len() < NUMBER_BYTES + ORDER_WIDTH * c {
-                return Wrote::Refused(Refusal::Short);
-            }
-            let end = put_order_line(buffer, number, c, row);
-            return Wrote::Written(end);
-        }
+    judge(MOST_SLOTS, order)?;
+    if buffer.len() < NUMBER_BYTES + ORDER_WIDTH * usize::from(order.count) {
+        return Err(Refusal::Short);
     }
+    let mut cursor = Cursor { out: buffer, at: 0 };
+    cursor.order_line(order);
+    Ok(cursor.at)
 }

@@ -1,8 +1,14 @@
-// Columns and lines as bytes in a lent buffer that has room for them; and whether it has.
-ghost use Rattle.std.specs.Prelude.{◌≡◌, ◌+◌, ◌≤◌, ◌<◌, min, leb, length};
-ghost use Rattle.std.proofs.lemmas.List.Edits.{sets};
-ghost use Rattle.rules.specs.Text.{column, text_line};
-ghost use Rattle.writing.specs.Storing.{last_digit, Room, Stores, lines_bytes};
+// Columns and lines as bytes from a place in a lent buffer on, which has room for them.
+ghost use Rattle.std.specs.Prelude.{◌≡◌, [], ◌∷◌, ◌+◌, ◌≤◌, ◌<◌, length};
+ghost use Rattle.rules.specs.Text.{digit, glyph, column, columns};
+ghost use Rattle.rules.specs.Letters.{byte_k};
+ghost use Rattle.rules.specs.InputLines.{order_line};
+ghost use Rattle.rules.specs.AnswerLines.{printed, blocked_lines, slot_lines};
+ghost use Rattle.words.specs.Carried.{carried};
+ghost use Rattle.writing.specs.Writing.{three_bytes};
+ghost use Rattle.writing.specs.Storing.{Room, Stores, slot_line};
+
+use words::{Order, label_at, number_at, size_of};
 
 // The places of a column, in an order's line and in all that is printed.
 pub(crate) const ORDER_WIDTH: usize = 6;
@@ -12,84 +18,143 @@ pub(crate) const ANSWER_WIDTH: usize = 10;
 // A line's letter and line feed.
 pub(crate) const FRAME: usize = 2;
 
+// A line of three columns: an answer, an L line, the N line.
+pub(crate) const THREE_BYTES: usize = FRAME + 3 * ANSWER_WIDTH;
+
 // So many numbers a line that is printed has at most.
 pub(crate) const PER_LINE: usize = 8;
 
-pub(crate) fn wide(x: u16) -> u64
-    ensures { result ≡ x }
+// The last digit of v: below ten, so the cast loses nothing.
+fn digit(v: u64) -> u8
+    ensures { result ≡ digit v }
 {
-    x as u64
-}
-
-pub(crate) fn least(a: usize, b: usize) -> usize
-    ensures { result ≡ min a b }
-{
-    if a < b { a } else { b }
-}
-
-// The last digit of v, or `blank` for 0.
-fn last_digit(v: u64, blank: u8) -> u8
-    ensures { result ≡ last_digit v blank }
-{
-    if v == 0 {
-        return blank;
-    }
     b'0' + (v % 10) as u8
 }
 
-// v in `width` places, from the last one to the first: a lone 0 is written, places before the number are spaces.
-pub(crate) fn put_column(out: &mut [u8], at: usize, width: usize, v: u64)
-    requires { (0 < width) × (at + width ≤ length out.old) }
-    ensures { out.new ≡ sets out.old at (column width v) }
+// The same with a space for 0.
+#[tactic(auto, using(crate::proofs::Columns::glyph_of))]
+fn glyph(v: u64) -> u8
+    ensures { result ≡ glyph v }
 {
-    let last = width - 1;
-    out[at + last] = last_digit(v, b'0');
+    if v == 0 { b' ' } else { digit(v) }
+}
+
+// v in the places of a column, from the last one to the first: a lone 0 is written, places before the number are spaces.
+#[tactic(auto, using(crate::proofs::Columns::places))]
+fn fill_column(places: &mut [u8], v: u64)
+    requires { 0 < length places.old }
+    ensures { places.new ≡ column (length places.old) v }
+{
+    let last = places.len() - 1;
+    places[last] = digit(v);
     let mut rest = v / 10;
-    let mut i = last;
-    while 0 < i {
-        i -= 1;
-        out[at + i] = last_digit(rest, b' ');
+    for i in (0..last).rev() {
+        places[i] = glyph(rest);
         rest /= 10;
     }
 }
 
-// A letter, a column for each number, a line feed. The answer is the position after it.
-pub(crate) fn put_line(out: &mut [u8], at: usize, width: usize, letter: u8, values: &[u16]) -> usize
-    requires { Room out.old at width (text_line width letter values.now) }
-    ensures { Stores out.old at (text_line width letter values.now) result out.new }
-{
-    out[at] = letter;
-    let mut end = at + 1;
-    let mut i: usize = 0;
-    while i < values.len() {
-        put_column(out, end, width, wide(values[i]));
-        end += width;
-        i += 1;
-    }
-    out[end] = b'\n';
-    end + 1
+// Where text goes on in a lent buffer.
+#[derive(Drop)]
+pub(crate) struct Cursor<'a> {
+    pub(crate) out: &'a mut [u8],
+    pub(crate) at: usize,
 }
 
-// A text of `size` bytes goes to `at` of a buffer of `len` bytes.
-pub(crate) fn fits(len: usize, at: usize, size: usize) -> bool
-    ensures { result ≡ leb (at + size) len }
-{
-    if len < at {
-        return false;
+impl Cursor<'_> {
+    fn byte(&mut self, byte: u8)
+        requires { Room self.old 1 }
+        ensures { Stores self.old (byte ∷ []) self.new }
+    {
+        self.out[self.at] = byte;
+        self.at += 1;
     }
-    size <= len - at
-}
 
-// The lines of n numbers, eight to a line, go to `at`. Asked in steps, so that no product is too large.
-pub(crate) fn lines_fit(len: usize, at: usize, n: usize) -> bool
-    ensures { result ≡ leb (at + lines_bytes n) len }
-{
-    if len < at {
-        return false;
+    #[tactic(auto, using(crate::proofs::Texts::placed))]
+    fn column(&mut self, width: usize, v: u64)
+        requires wide { 0 < width }
+        requires room { Room self.old width }
+        ensures { Stores self.old (column width v) self.new }
+    {
+        let end = self.at + width;
+        fill_column(&mut self.out[self.at..end], v);
+        self.at = end;
     }
-    let room = len - at;
-    if room / ANSWER_WIDTH < n {
-        return false;
+
+    fn columns(&mut self, width: usize, values: &[u16])
+        requires wide { 0 < width }
+        requires room { Room self.old (length (columns width values.now)) }
+        ensures { Stores self.old (columns width values.now) self.new }
+    {
+        for &v in values {
+            self.column(width, u64::from(v));
+        }
     }
-    FRAME * ((n + (PER_LINE - 1)) / PER_LINE) <= room - ANSWER_WIDTH * n
+
+    // A line of three columns: most of what is printed. Inlined, for then the cursor stays in registers.
+    #[inline(always)]
+    #[tactic(auto, using(crate::proofs::Texts::line), unfolding(rules::specs::Text::text_line))]
+    pub(crate) fn three_columns(&mut self, letter: u8, a: u64, b: u64, c: u64)
+        requires { Room self.old three_bytes }
+        ensures { Stores self.old (printed letter (a ∷ b ∷ c ∷ [])) self.new }
+    {
+        self.byte(letter);
+        self.column(ANSWER_WIDTH, a);
+        self.column(ANSWER_WIDTH, b);
+        self.column(ANSWER_WIDTH, c);
+        self.byte(b'\n');
+    }
+
+    // The K line of up to eight slots.
+    #[tactic(auto, using(crate::proofs::Texts::line), unfolding(rules::specs::Text::text_line))]
+    fn blocked_line(&mut self, slots: &[u16])
+        requires { Room self.old (length (printed byte_k slots.now)) }
+        ensures { Stores self.old (printed byte_k slots.now) self.new }
+    {
+        self.byte(b'K');
+        self.columns(ANSWER_WIDTH, slots);
+        self.byte(b'\n');
+    }
+
+    // The K lines: eight slots to a line.
+    pub(crate) fn blocked_lines(&mut self, slots: &[u16])
+        requires { Room self.old (length (blocked_lines slots.now)) }
+        ensures { Stores self.old (blocked_lines slots.now) self.new }
+    {
+        for line in slots.chunks(PER_LINE) {
+            self.blocked_line(line);
+        }
+    }
+
+    // The L line of slot s.
+    fn slot_line(&mut self, board: &[u16], s: u16)
+        requires { Room self.old three_bytes }
+        ensures { Stores self.old (slot_line board.now s) self.new }
+    {
+        let number = number_at(board, s);
+        let label = label_at(board, s);
+        self.three_columns(b'L', u64::from(s), u64::from(number), u64::from(label));
+    }
+
+    // The L lines: one per slot.
+    pub(crate) fn slot_lines(&mut self, board: &[u16])
+        requires { Room self.old (length (slot_lines board.now)) }
+        ensures { Stores self.old (slot_lines board.now) self.new }
+    {
+        for s in 1..=size_of(board) {
+            self.slot_line(board, s);
+        }
+    }
+
+    // The A line of an order, 8 bytes and 6 more per slot.
+    #[tactic(auto, using(crate::proofs::Texts::line), unfolding(rules::specs::Text::text_line))]
+    pub(crate) fn order_line(&mut self, order: &Order)
+        requires { Room self.old (length (order_line order.now.number (carried order.now).list)) }
+        ensures { Stores self.old (order_line order.now.number (carried order.now).list) self.new }
+    {
+        self.byte(b'A');
+        self.column(ORDER_WIDTH, u64::from(order.number));
+        self.columns(ORDER_WIDTH, order.list());
+        self.byte(b'\n');
+    }
 }

@@ -1,10 +1,8 @@
-use native.Mathlib.Omega.{arith}
+use Rattle.std.proofs.Common.{arith, refl, rules}
 use Rattle.rules.specs.Runs.{tally_line}
 use Rattle.writing.proofs.Closing.{closes-all}
 use Rattle.writing.proofs.close.Goals as goal
 
 pub returns : goal.returns
 unfolding tally_line
-returns c =
-    let a = c.args in
-    closes-all a.t a.out.now (omega (arith, c.if-out-lt-THREE_BYTES.false)) _ _ c.put_three.ensures
+returns c = closes-all _ _ (omega arith) _ _ refl refl _ c.three_columns.ensures (cc) _ (search rules)

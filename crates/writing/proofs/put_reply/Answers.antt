@@ -1,20 +1,17 @@
-use mathlib.Core.Path.{sym, ◌∙◌}
-use native.Mathlib.Omega.{arith}
-use Rattle.writing.proofs.ReplyTexts.{reply-none, reply-room, reply-all}
+use Rattle.std.proofs.Common.{arith, refl, rules}
+use Rattle.std.proofs.lemmas.Bool.Decides.{nat_tests}
+use Rattle.writing.proofs.Puts.{puts-none, puts-all}
+use Rattle.writing.proofs.Replies.{length-reply, lines-room, reply-stored}
 use Rattle.writing.proofs.put_reply.Goals as goal
 
-pub returns-then-not-reply_fits : goal.returns-then-not-reply_fits
-returns-then-not-reply_fits c =
-    let a = c.args in
-    reply-none a.reply a.board.now a.work.now a.out.now a.at (sym c.reply_fits.ensures ∙ c.if-not-reply_fits.true)
+pub returns-then-not-fits : goal.returns-then-not-fits
+returns-then-not-fits c = puts-none _ _ _ (grind (arith, nat_tests, length-reply))
 
-pub put_answer_line-end-requires : goal.put_answer_line-end-requires
-put_answer_line-end-requires c =
-    let a = c.args in
-    omega (arith, reply-room a.reply a.board.now a.work.now a.out.now a.at (sym c.reply_fits.ensures ∙ c.if-not-reply_fits.false))
+pub put-requires : goal.put-requires
+put-requires c = lines-room _ _ _ _ _ _ c.from-number.ensures c.from-refusal.ensures c.of-lines.ensures _ _ c.three_columns.ensures (grind (arith, nat_tests, length-reply))
 
 pub returns : goal.returns
 returns c =
-    let a = c.args in
-    reply-all a.reply a.board.now a.work.now a.out.now a.at (sym c.reply_fits.ensures ∙ c.if-not-reply_fits.false) c.put_answer_line-end.result c.put_answer_line-end.new.out c.put_answer_line-end.ensures
-    _ _ c.put_following.ensures
+    puts-all _ _ _ (grind (arith, nat_tests, length-reply)) _ _ refl refl
+    (reply-stored _ _ _ _ _ _ c.from-number.ensures c.from-refusal.ensures c.of-lines.ensures _ _ c.three_columns.ensures _ c.put.ensures)
+    _ (search rules)

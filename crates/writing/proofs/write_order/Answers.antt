@@ -1,30 +1,18 @@
-use Prim.Native.Nat.{◌≤◌}
-use native.Mathlib.Omega.{arith}
-use Rattle.rules.specs.Layout.{most_choices}
-use Rattle.writing.proofs.Orders.{refuses-fault, few, refuses-4, order-room, writes}
+use Rattle.std.proofs.Common.{arith, refl, rules}
+use Rattle.std.proofs.lemmas.Result.{err_from_is_err_and}
+use Rattle.writing.proofs.Orders.{refused, short, length-line, writes}
 use Rattle.writing.proofs.write_order.Goals as goal
 
-pub returns-in-Refused : goal.returns-in-Refused
-returns-in-Refused c =
-    let a = c.args in
-    refuses-fault a.number a.count a.row a.buffer.now (omega arith) c.in-Refused.why c.in-Refused.ensures
+pub returns-in_err-judge : goal.returns-in_err-judge
+returns-in_err-judge c =
+    let p = err_from_is_err_and c.from_residual.result c.from_residual.ensures.1 in
+    rw (p.1, p.2) (search (rules, refused))
 
-pub returns-then-buffer-c : goal.returns-then-buffer-c
-returns-then-buffer-c c =
-    let a = c.args in
-    refuses-4 a.number a.count a.row a.buffer.now (omega arith) c.in-Passed.ensures (omega arith)
+pub returns-then-buffer-from : goal.returns-then-buffer-from
+returns-then-buffer-from c = search (rules, short)
 
-eight : (c : goal.After-put_order_line-arg-1) → c.args.count ≤ most_choices
-eight c =
-    let a = c.args in
-    few a.number a.count a.row a.buffer.now (omega arith) c.in-Passed.ensures
+pub order_line-requires : goal.order_line-requires
+order_line-requires c = omega (arith, length-line)
 
-pub put_order_line-end-requires : goal.put_order_line-end-requires
-put_order_line-end-requires c =
-    let a = c.args in
-    (eight c, order-room a.number a.count a.row a.buffer.now (omega arith) (eight c) (omega arith))
-
-pub returns-in-Passed : goal.returns-in-Passed
-returns-in-Passed c =
-    let a = c.args in
-    writes a.number a.count a.row a.buffer.now (omega arith) c.in-Passed.ensures (omega arith) _ _ c.put_order_line-end.ensures
+pub returns : goal.returns
+returns c = writes _ _ _ _ (omega arith) c.in_ok-judge.ensures (omega arith) _ _ refl refl c.order_line.ensures _ (search rules)
