@@ -1,35 +1,27 @@
-use mathlib.Core.Path.{◌≡◌, sym, ◌∙◌}
-use Prim.Native.Nat.{◌≤◌}
-use native.Mathlib.Omega.{arith}
-use lib.ListN.{length, get_or, take}
-use lib.Seq.{get_or-take}
-use Rattle.placing.proofs.Walks.{first-met, one_more, last-met}
-use borrow.Author.Rules.{rules}
+use Rattle.std.proofs.Common.{List, ℕ, ◌+◌, drop, refl, sym, ◌∙◌, subst, arith}
+use Rattle.std.proofs.lemmas.List.{drop_more, drop_all}
+use Rattle.placing.specs.declared.Chosen.{Chosen}
+use Rattle.placing.proofs.Walks.{Met, none-met, first-met, more-met, last-met}
 use Rattle.placing.proofs.choose.Goals as goal
-use Rattle.placing.proofs.choose.Goals.{then-count-eq0, else-count-eq0}
 
-eight : (c : goal.After-label_at-least) → length c.args.choices.row ≡ 8
-eight c = search rules
+pub returns-in_default : goal.returns-in_default
+returns-in_default c = c.alone.ensures ∙ none-met c.args.board.now c.args.n c.args.choices.now c.in_default.ensures.cases _ refl
 
-pub loop-i-init : goal.loop-i-init
-loop-i-init c =
-    let a = c.args in
-    let long : a.choices.count ≤ length a.choices.row = omega (arith, eight c, c.requires) in
-    let first : c.if-count-eq0.slot ≡ get_or (take a.choices.count a.choices.row) 0 0 = elim c.if-count-eq0.branch [
-      | then-count-eq0 w ↦ w.slot-is ∙ rw w.if-count-eq0.true
-      | else-count-eq0 w ↦ w.slot-is ∙ sym (get_or-take a.choices.count a.choices.row 0 0 (omega (arith, w.if-count-eq0.false)))
-    ] in
-    (long, first-met a.board.now a.n a.choices.row a.choices.count c.if-count-eq0.slot c.label_at-least.result first c.label_at-least.ensures)
+pub loop-slot-init : goal.loop-slot-init
+loop-slot-init c =
+    subst (λ (b : Chosen). Met c.args.board.now c.args.n c.args.choices.now b c.in-Some.others.now) (sym c.alone-best.ensures)
+    (first-met c.args.board.now c.args.n _ _ c.args.choices.now c.in-Some.others.now c.in-Some.ensures.cases.0 refl)
 
-pub loop-i-preserved : goal.loop-i-preserved
-loop-i-preserved c =
-    let a = c.args in
-    let l = c.loop-i in
-    let r = c.label_at-label in
-    (l.invariant.0, one_more a.board.now a.n a.choices.row a.choices.count l.i l.best c.loop-i-test.true l.invariant.0 r.result r.ensures c.meet-best.result c.meet-best.ensures l.invariant.1)
+pub loop-slot-preserved : goal.loop-slot-preserved
+loop-slot-preserved c =
+    let l = c.loop-slot in
+    let rest = c.in-Some.others.now in
+    more-met c.args.board.now c.args.n c.args.choices.now l.best _ _ (drop (l.slot-index + 1) rest)
+    (subst (λ (k : List ℕ). Met c.args.board.now c.args.n c.args.choices.now l.best k) (drop_more rest l.slot-index 0 c.loop-slot-test.true) l.invariant)
+    c.label_at.ensures c.meet-best.result c.meet-best.ensures
 
 pub returns : goal.returns
 returns c =
-    let a = c.args in
-    let l = c.loop-i in
-    last-met a.board.now a.n a.choices.row a.choices.count l.i l.best c.loop-i-test.false l.invariant.0 l.invariant.1
+    let l = c.loop-slot in
+    last-met c.args.board.now c.args.n c.args.choices.now l.best
+    (subst (λ (k : List ℕ). Met c.args.board.now c.args.n c.args.choices.now l.best k) (drop_all l.slot-index c.in-Some.others.now (omega (arith, c.loop-slot-test.false))) l.invariant)

@@ -1,13 +1,9 @@
-use mathlib.Core.Path.{◌≡◌}
-use Prim.Native.Nat.{◌-◌}
-use lib.ListN.{length}
+use Rattle.std.proofs.Common.{◌≡◌, ◌-◌}
 use Rattle.matching.specs.Placing.{follow}
 use Rattle.rules.specs.Layout.{view, write_at}
 use Rattle.words.specs.Carried.{carried}
 use Rattle.placing.proofs.place.Given as goal
 
-abbrev pub invariant-loop-moves : goal.invariant-loop-moves
-invariant-loop-moves l = (length l.board ≡ length l.initial.board) × (follow view (write_at l.n) l.n (l.limit - l.moves) l.board (carried l.o) l.moves ≡ follow view (write_at l.n) l.n l.limit l.initial.board (carried l.initial.o) 0)
-
-abbrev pub decreases-loop-moves : goal.decreases-loop-moves
-decreases-loop-moves l = l.limit - l.moves
+-- What is left of the search, in the turns that are left, comes to the whole.
+abbrev pub invariant-loop-made : goal.invariant-loop-made
+invariant-loop-made l = follow view (write_at l.n) l.n (l.made-end - l.made) l.board (carried l.homeless) l.made ≡ follow view (write_at l.n) l.n l.made-end l.initial.board (carried l.initial.homeless) 0
