@@ -1,26 +1,23 @@
 -- An order that was written, and its line.
-use mathlib.Core.Path.{◌≡◌, refl, sym, ap, ◌∙◌}
-use mathlib.Core.List.{List, ◌∷◌}
-use Prim.Native.Nat.{ℕ, ◌+◌, ◌-◌, ◌≤◌}
-use native.Mathlib.Omega.{arith}
-use lib.ListN.{length, take}
+use Rattle.std.proofs.Common.{◌≡◌, ℕ, ◌+◌, ◌-◌, ◌≤◌, List, ◌∷◌, Result, Ok, Err, length, take, refl, sym, ap, ◌∙◌, arith, length-take-le}
+use Rattle.std.specs.Result.{result_unwrap_or}
 use Rattle.rules.specs.Calls.{order}
 use Rattle.rules.specs.InputLines.{column_count, values, Written, written}
 use Rattle.rules.specs.RoundTrip.{written_line, ReadsBack}
 use Rattle.rules.proofs.RoundTrip.{reads-back, written-letter, written-values, written-slots, written-within}
+use Rattle.answers.specs.declared.Refusal.{Refusal}
 use Rattle.reading.specs.Reading.{kind_of, ten_columns, line_of}
+use Rattle.reading.specs.declared.Kind.TheVariants.{Accept}
 use Rattle.reading.proofs.LineUses.{line_taken, value-count}
 use Rattle.writing.specs.Wrote.{wrote_of}
-use Rattle.writing.specs.declared.Wrote.{Wrote}
-use Rattle.writing.specs.declared.Wrote.TheVariants as wrote
-use Rattle.round_trip.specs.WriteRead.{order_read, bytes_before}
+use Rattle.round_trip.specs.WriteRead.{order_read}
 
 -- the reader gives the order again
-pub read-order : (k c : ℕ) (row buffer : List ℕ) → k ≤ 65535 → (written k c row buffer).refusal ≡ 0 → line_of (written_line (written k c row buffer)) ≡ order_read k c row
+pub read_order : (k c : ℕ) (row buffer : List ℕ) → k ≤ 65535 → (written k c row buffer).refusal ≡ 0 → line_of (written_line (written k c row buffer)) ≡ Ok (order_read k c row)
 unfolding ReadsBack
-read-order k c row buffer fit e =
-    line_taken l (reads-back k c row buffer fit e).taken
-    ∙ (λ i. record { kind = kind_of (written-letter k c row buffer fit e i); count = columns i; columns = ten_columns (numbers i) })
+read_order k c row buffer fit e =
+    line_taken l Accept (reads-back k c row buffer fit e).taken (ap kind_of (written-letter k c row buffer fit e))
+    ∙ (λ i. Ok (record { kind = Accept; count = columns i; columns = ten_columns (numbers i) }))
   where
     l : List ℕ
     l = written_line (written k c row buffer)
@@ -31,25 +28,30 @@ read-order k c row buffer fit e =
     columns : column_count l ≡ 1 + c
     columns = omega (arith, value-count l, ap length numbers, written-slots k c row buffer fit e)
 
--- ---- the bytes before the line feed
+pub take-longer : (n : ℕ) (l : List ℕ) → n ≤ length l → n ≡ length (take n l)
+take-longer n l h = sym (length-take-le n l h)
 
-count-is : (w : Wrote) (buffer : List ℕ) → bytes_before w ≡ (wrote_of w buffer).count - 1
-count-is (wrote.Written n) buffer = refl
-count-is (wrote.Refused why) buffer = refl
+-- ---- what was written stands in the buffer, and its line before the line feed
 
-module _ (k c : ℕ) (row buffer : List ℕ) (w : Wrote) (buffer' : List ℕ) (is : wrote_of w buffer' ≡ written k c row buffer) where
-  bytes-are : bytes_before w ≡ (written k c row buffer).count - 1
-  bytes-are = count-is w buffer' ∙ ap (λ (t : Written). t.count - 1) is
+count-of : (w : Result ℕ Refusal) (buffer : List ℕ) → result_unwrap_or w 0 ≡ (wrote_of w buffer).count
+count-of (Ok n) buffer = refl
+count-of (Err why) buffer = refl
+
+left-in : (w : Result ℕ Refusal) (buffer : List ℕ) → buffer ≡ (wrote_of w buffer).buffer
+left-in (Ok n) buffer = refl
+left-in (Err why) buffer = refl
+
+module _ (k c : ℕ) (row buffer : List ℕ) (w : Result ℕ Refusal) (buffer' : List ℕ) (is : wrote_of w buffer' ≡ written k c row buffer) where
+  count-is : result_unwrap_or w 0 ≡ (written k c row buffer).count
+  count-is = count-of w buffer' ∙ ap (λ (t : Written). t.count) is
 
   buffer-is : buffer' ≡ (written k c row buffer).buffer
-  buffer-is = sym (left w buffer') ∙ ap (λ (t : Written). t.buffer) is
-    where
-      left : (w : Wrote) (b : List ℕ) → (wrote_of w b).buffer ≡ b
-      left (wrote.Written n) b = refl
-      left (wrote.Refused why) b = refl
+  buffer-is = left-in w buffer' ∙ ap (λ (t : Written). t.buffer) is
 
-  pub stands-within : bytes_before w ≤ length buffer'
-  stands-within = omega (arith, bytes-are, written-within k c row buffer, ap length buffer-is)
+  pub stands_within : result_unwrap_or w 0 ≤ length buffer'
+  stands_within = omega (arith, count-is, written-within k c row buffer, ap length buffer-is)
 
-  pub line-there : take (bytes_before w) buffer' ≡ written_line (written k c row buffer)
-  line-there = λ i. take (bytes-are i) (buffer-is i)
+  pub line_there : take (result_unwrap_or w 0 - 1) buffer' ≡ written_line (written k c row buffer)
+  line_there = λ i. take (count-is i - 1) (buffer-is i)
+
+pub ruleset reads = (stands_within, line_there, read_order, take-longer)

@@ -1,13 +1,16 @@
 -- A line is read, and where it is an A line its order is written.
-use Rattle.std.specs.Prelude.{◌≡◌, cond, List, [], ℕ, ◌+◌, ◌≤◌, eqb, length}
+use Rattle.std.specs.Prelude.{◌≡◌, cond, List, [], ℕ, ◌+◌, ◌≤◌, Result, Ok, Err, eqb, length}
 use Rattle.rules.specs.Layout.{most_slots}
 use Rattle.rules.specs.Calls.{Call, open-board, accept, withdraw, print, first, order_checks}
 use Rattle.rules.specs.InputLines.{letter_of, values, line_refusal, call_of, Written, written}
 use Rattle.rules.specs.RoundTrip.{line_written, AcceptedOrder}
 use Rattle.rules.specs.Runs.{State}
-use Rattle.reading.specs.Reading.{kind_refusal, line_of, line_order}
+use Rattle.answers.specs.Numbers.{code}
+use Rattle.answers.specs.declared.Refusal.{Refusal}
+use Rattle.words.specs.declared.Order.{Order}
+use Rattle.reading.specs.Reading.{line_of, line_order}
 use Rattle.reading.specs.declared.Kind.{Kind}
-use Rattle.reading.specs.declared.Kind.TheVariants.{Open, Accept, Withdraw, Print, Malformed, TooLarge}
+use Rattle.reading.specs.declared.Kind.TheVariants.{Open, Accept, Withdraw, Print}
 use Rattle.reading.specs.declared.Line.{Line}
 use Rattle.writing.specs.Wrote.{wrote_of}
 use Rattle.round_trip.specs.declared.RoundTrip.{RoundTrip}
@@ -33,20 +36,19 @@ pub record ReadsWrites (l buffer : List ℕ) (r : RoundTrip) (buffer' : List ℕ
   -- the writer's answer, and the whole buffer
   pub wrote : wrote_of r.wrote buffer' ≡ rewritten l buffer
   -- an A line whose order passes 7 to 10 with 1,024 for n is written byte for byte where there is room for it and its line feed
-  pub back : (k c : ℕ) (row : List ℕ) → r.line.kind ≡ Accept → call_of (letter_of l) (values l) ≡ accept k c row → first (order_checks most_slots k c row []) ≡ 0
+  pub back : (line : Line) (k c : ℕ) (row : List ℕ) → r.line ≡ Ok line → line.kind ≡ Accept → call_of (letter_of l) (values l) ≡ accept k c row → first (order_checks most_slots k c row []) ≡ 0
       → length l + 1 ≤ length buffer → wrote_of r.wrote buffer' ≡ line_written l buffer
   -- and so is an A line that is accepted, on whatever board
   pub accepted : (s : State) → AcceptedOrder l s → length l + 1 ≤ length buffer → wrote_of r.wrote buffer' ≡ line_written l buffer
 
--- Internal: the order of an A line as the reader gave it, written
-abbrev pub order_written : Line → List ℕ → Written
-order_written l buffer = written (line_order l).number (line_order l).count (line_order l).row buffer
-
 -- Internal: what is written of a line of this kind
-abbrev pub kind_written : Kind → Line → List ℕ → Written
-kind_written Open l buffer = unwritten 0 buffer
-kind_written Accept l buffer = order_written l buffer
-kind_written Withdraw l buffer = unwritten 0 buffer
-kind_written Print l buffer = unwritten 0 buffer
-kind_written Malformed l buffer = unwritten (kind_refusal Malformed) buffer
-kind_written TooLarge l buffer = unwritten (kind_refusal TooLarge) buffer
+abbrev pub kind_written : Kind → Order → List ℕ → Written
+kind_written Open o buffer = unwritten 0 buffer
+kind_written Accept o buffer = written o.number o.count o.row buffer
+kind_written Withdraw o buffer = unwritten 0 buffer
+kind_written Print o buffer = unwritten 0 buffer
+
+-- Internal: what is written of a line as the reader gave it
+abbrev pub read_written : Result Line Refusal → List ℕ → Written
+read_written (Ok line) buffer = kind_written line.kind (line_order line) buffer
+read_written (Err why) buffer = unwritten (code why) buffer

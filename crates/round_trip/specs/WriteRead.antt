@@ -1,5 +1,5 @@
 -- An order is written, and the line that then stands in the buffer is read.
-use Rattle.std.specs.Prelude.{◌≡◌, List, [], ◌∷◌, ℕ, ◌+◌, ◌-◌}
+use Rattle.std.specs.Prelude.{◌≡◌, List, ◌∷◌, ℕ, ◌+◌, Ok}
 use Rattle.rules.specs.Calls.{order}
 use Rattle.rules.specs.InputLines.{written}
 use Rattle.rules.specs.RoundTrip.{written_line}
@@ -7,7 +7,6 @@ use Rattle.reading.specs.Reading.{ten_columns, line_of}
 use Rattle.reading.specs.declared.Kind.TheVariants.{Accept}
 use Rattle.reading.specs.declared.Line.{Line}
 use Rattle.writing.specs.Wrote.{wrote_of}
-use Rattle.writing.specs.declared.Wrote.{Wrote}
 use Rattle.round_trip.specs.declared.RoundTrip.{RoundTrip}
 
 -- an order as the reader gives it: an A line, one column for its number and one for each slot of its count, 0 beyond them
@@ -20,8 +19,4 @@ pub record WritesReads (k c : ℕ) (row buffer : List ℕ) (r : RoundTrip) (buff
   -- the reader's answer to what was written, without its line feed: to no bytes where the writer refused
   pub read : r.line ≡ line_of (written_line (written k c row buffer))
   -- an order that was written is read as that order
-  pub back : (written k c row buffer).refusal ≡ 0 → r.line ≡ order_read k c row
-
--- Internal: how many of the bytes written stand before the line feed
-abbrev pub bytes_before : Wrote → ℕ
-bytes_before w = (wrote_of w []).count - 1
+  pub back : (written k c row buffer).refusal ≡ 0 → r.line ≡ Ok (order_read k c row)

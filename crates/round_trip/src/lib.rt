@@ -3,90 +3,51 @@
 
 ghost use Rattle.std.specs.Prelude.{◌≡◌};
 ghost use Rattle.writing.specs.Wrote.{wrote_of};
-ghost use Rattle.round_trip.specs.WriteRead.{WritesReads, bytes_before};
-ghost use Rattle.round_trip.specs.ReadWrite.{ReadsWrites, order_written, kind_written};
+ghost use Rattle.round_trip.specs.WriteRead.{WritesReads};
+ghost use Rattle.round_trip.specs.ReadWrite.{ReadsWrites, read_written};
 
 use answers::Refusal;
-use reading::{Kind, Line, order_of, read_line};
-use writing::{Wrote, write_order};
+use reading::{Kind, Line, read_line};
+use words::Order;
+use writing::write_order;
 
 // What the line reader and the order writer answered.
-#[derive(Clone, Copy)]
+#[derive(Clone, Copy, Debug, PartialEq, Eq)]
 pub struct RoundTrip {
-    pub line: Line,
-    pub wrote: Wrote,
+    pub line: Result<Line, Refusal>,
+    pub wrote: Result<usize, Refusal>,
 }
 
-// How many of the bytes written stand before the line feed.
-fn before_feed(wrote: Wrote) -> usize
-    ensures { result ≡ bytes_before wrote }
+// Writes an order, and reads the line that then stands in the buffer, without its line feed: no bytes where the order was refused.
+#[tactic(auto, using(crate::proofs::WriteReads::reads))]
+pub fn write_and_read(buffer: &mut [u8], order: &Order) -> RoundTrip
+    ensures { WritesReads order.now.number order.now.count order.now.row buffer.old result buffer.new }
 {
-    match wrote {
-        Wrote::Written(count) => {
-            if count == 0 {
-                return 0;
-            }
-            return count - 1;
-        }
-        Wrote::Refused(why) => {
-            return 0;
-        }
-    }
-}
-
-// Writes an order, and reads the line that then stands in the buffer: no bytes where the order was refused.
-pub fn write_and_read(buffer: &mut [u8], number: u16, count: u16, row: [u16; 8]) -> RoundTrip
-    ensures { WritesReads number count row buffer.old result buffer.new }
-{
-    let wrote = write_order(buffer, number, count, row);
-    let end = before_feed(wrote);
+    // A number behind a reference is known to be a word once it is read.
+    let _number = order.number;
+    let wrote = write_order(buffer, order);
+    let end = wrote.unwrap_or(0).saturating_sub(1);
     let line = read_line(&buffer[..end]);
     RoundTrip { line, wrote }
 }
 
-// Writes the order of an A line.
-fn write_order_of(l: Line, buffer: &mut [u8]) -> Wrote
-    ensures { wrote_of result buffer.new ≡ order_written l buffer.old }
+// Writes the order of an A line, and of any other line nothing.
+fn write_line(line: Result<Line, Refusal>, buffer: &mut [u8]) -> Result<usize, Refusal>
+    ensures { wrote_of result buffer.new ≡ read_written line buffer.old }
 {
-    let o = order_of(l);
-    let number = o.number;
-    let count = o.count;
-    let row = o.row;
-    write_order(buffer, number, count, row)
-}
-
-// The order of an A line; of any other line nothing.
-fn write_line(kind: Kind, l: Line, buffer: &mut [u8]) -> Wrote
-    ensures { wrote_of result buffer.new ≡ kind_written kind l buffer.old }
-{
-    match kind {
-        Kind::Accept => {
-            return write_order_of(l, buffer);
-        }
-        Kind::Malformed => {
-            return Wrote::Refused(Refusal::Malformed);
-        }
-        Kind::TooLarge => {
-            return Wrote::Refused(Refusal::TooLarge);
-        }
-        Kind::Open => {
-            return Wrote::Written(0);
-        }
-        Kind::Withdraw => {
-            return Wrote::Written(0);
-        }
-        Kind::Print => {
-            return Wrote::Written(0);
-        }
+    let line = line?;
+    match line.kind {
+        Kind::Accept => write_order(buffer, &line.order()),
+        Kind::Open | Kind::Withdraw | Kind::Print => Ok(0),
     }
 }
 
 // Reads a line, given without its line feed, and writes its order where it is an A line.
+#[tactic(auto, using(crate::proofs::ReadWrites::rewrites))]
 pub fn read_and_write(line: &[u8], buffer: &mut [u8]) -> RoundTrip
     ensures { ReadsWrites line.now buffer.old result buffer.new }
 {
-    let read = read_line(line);
-    let kind = read.kind;
-    let wrote = write_line(kind, read, buffer);
-    RoundTrip { line: read, wrote }
+    let line = read_line(line);
+    let wrote = write_line(line, buffer);
+    RoundTrip { line, wrote }
 }
