@@ -1,31 +1,84 @@
--- The look for an order as the loops make it: what is left of it after slot `past`, of n slots.
-use mathlib.Core.Bool.{Bool, true, false, not, ◌||◌}
-use mathlib.Core.List.{List}
-use mathlib.Core.Path.{◌≡◌, refl, sym, ap, ◌∙◌, subst}
-use Prim.Native.Nat.{ℕ, zero, suc, ◌+◌, ◌-◌, ◌≤◌, ◌<◌}
-use native.Mathlib.Decide.{ℕ_discrete}
-use native.Mathlib.Omega.{arith}
-use lib.Dec.{T}
-use borrow.Author.Tests.{eq-eqb, ne_eqb, eqb-false}
+-- The look for an order.
+use Rattle.std.proofs.Common.{◌≡◌, ◌∙◌, sym, ap, ℕ, zero, suc, ◌+◌, ◌-◌, ◌*◌, ◌≤◌, ◌<◌, ◌||◌, not, Bool, true, false, cond, Option, None, Some, List, [], ◌∷◌, map, take, drop, eqb, ltb, T, refl, arith}
+use native.Mathlib.Decide.{ℕ_discrete, dec_lt}
+use borrow.Author.Tests.{eq-eqb, ne_eqb, lt-ltb, le-ltb}
+use Rattle.std.specs.Option.{unwrap_or}
+use Rattle.std.specs.Simd.{first_chunks}
+use Rattle.std.specs.List.{list_any, find, range_with_len, position_or_len}
+use Rattle.std.proofs.Math.Seq.{take-add}
+use Rattle.std.proofs.lemmas.List.FromFn.{take-map-range_with_len}
+use Rattle.std.proofs.lemmas.List.Folds.{list_any-append}
 use Rattle.rules.specs.Calls.{find_from}
-use Rattle.rules.specs.Layout.{number_at}
+use Rattle.rules.specs.Layout.{slot_words, reads, base, number_at}
+use Rattle.checking.specs.Found.{found}
+use Rattle.checking.specs.Slots.{has_number, whole, whole_slots}
 use Rattle.rules.proofs.Bools.{no_true}
 use Rattle.rules.proofs.Finding.{sits, find_none, find-here, find-next}
-use Rattle.checking.specs.Slots.{FourLack, has_number}
 
 or_no : (a b : Bool) → (a || b) ≡ false → (a ≡ false) × (b ≡ false)
 or_no true b e = absurd (no_true e)
 or_no false b e = (refl, e)
 
-module _ (w : List ℕ) (k n : ℕ) where
-  abbrev pub after : ℕ → ℕ
-  after past = find_from w k (n - past) (past + 1)
+-- ---- chunk by chunk
 
-  pub after-all : (past : ℕ) → n ≤ past → after past ≡ 0
-  after-all past h = let e : n - past ≡ 0 = omega arith in ap (λ (m : ℕ). find_from w k m (past + 1)) e ∙ find_none k w (past + 1)
+-- the chunks before the first that has one lack it
+pub none_before : {A : Type 0} (p : A → Bool) (c k : ℕ) (xs : List A) → list_any p (take (c * position_or_len (list_any p) (first_chunks c k xs)) xs) ≡ false
+none_before p c zero xs = let e : c * 0 ≡ 0 = omega arith in ap (λ (j : ℕ). list_any p (take j xs)) e
+none_before {A} p c (suc k) xs = go (list_any p (take c xs)) refl (none_before p c k (drop c xs))
+  where
+    go : (b : Bool) → list_any p (take c xs) ≡ b → list_any p (take (c * position_or_len (list_any p) (first_chunks c k (drop c xs))) (drop c xs)) ≡ false
+        → list_any p (take (c * cond (not b) (1 + position_or_len (list_any p) (first_chunks c k (drop c xs))) 0) xs) ≡ false
+    go true e h = let z : c * 0 ≡ 0 = omega arith in ap (λ (j : ℕ). list_any p (take j xs)) z
+    go false e h =
+        let r = position_or_len (list_any p) (first_chunks c k (drop c xs)) in
+        let z : c * (1 + r) ≡ c + c * r = omega arith in
+        ap (λ (j : ℕ). list_any p (take j xs)) z ∙ ap (list_any p) (take-add c (c * r) xs) ∙ list_any-append p (take c xs) (take (c * r) (drop c xs)) ∙ λ i. e i || h i
 
-  one_more : (past : ℕ) → past < n → after past ≡ find_from w k (suc (n - (past + 1))) (past + 1)
-  one_more past h = let e : n - past ≡ suc (n - (past + 1)) = omega arith in ap (λ (m : ℕ). find_from w k m (past + 1)) e
+-- what `unwrap_or` makes of the place
+pub unwrapped : (i n : ℕ) → i ≤ n → unwrap_or (cond (ltb i n) (Some i) None) n ≡ i
+unwrapped i n h = go (dec_lt i n)
+  where
+    go : Dec (i < n) → unwrap_or (cond (ltb i n) (Some i) None) n ≡ i
+    go (yes l) = rw (lt-ltb i n l)
+    go (no g) = rw (le-ltb i n (omega arith)) (omega arith)
+
+-- ---- slot by slot
+
+-- 0 is no order's number
+pub find-zero : (w : List ℕ) (m s : ℕ) → find_from w 0 m s ≡ 0
+find-zero w zero s = find_none 0 w s
+find-zero w (suc m) s = go (ℕ_discrete (number_at w s) 0) ∙ find-zero w m (s + 1)
+  where
+    go : Dec (number_at w s ≡ 0) → find_from w 0 (suc m) s ≡ find_from w 0 m (s + 1)
+    go (yes z) = find-next 0 w m s (rw (eq-eqb (number_at w s) 0 z) tt)
+    go (no z) = find-next 0 w m s (rw (ne_eqb (number_at w s) 0 z, ne_eqb (number_at w s) 0 z) tt)
+
+-- the slot of a look, where 0 is none
+abbrev pub answer : ℕ → Option ℕ
+answer s = cond (eqb s 0) None (Some s)
+
+answer-some : (s : ℕ) → 1 ≤ s → answer s ≡ Some s
+answer-some s h = rw (ne_eqb s 0 (λ z. omega arith))
+
+module _ (w : List ℕ) (k : ℕ) where
+  abbrev pub has : ℕ → Bool
+  has s = eqb (number_at w s) k
+
+  -- slots that lack the number are passed over
+  pub find-past : (past m s : ℕ) → list_any has (range_with_len s past) ≡ false → find has (range_with_len s (past + m)) ≡ find has (range_with_len (s + past) m)
+  find-past zero m s h = λ i. find has (range_with_len (s_is i) (m_is i))
+    where
+      s_is : s ≡ s + 0
+      s_is = omega arith
+
+      m_is : 0 + m ≡ m
+      m_is = omega arith
+  find-past (suc p) m s h =
+      let o = or_no (has s) (list_any has (range_with_len (s + 1) p)) h in
+      let e : suc p + m ≡ suc (p + m) = omega arith in
+      let f : s + 1 + p ≡ s + suc p = omega arith in
+      ap (λ (j : ℕ). find has (range_with_len s j)) e ∙ ap (λ (b : Bool). cond b (Some s) (find has (range_with_len (s + 1) (p + m)))) o.0 ∙ find-past p m (s + 1) o.1
+      ∙ ap (λ (j : ℕ). find has (range_with_len j m)) f
 
   module _ (some : 1 ≤ k) where
     sits-yes : (s : ℕ) → number_at w s ≡ k → T (sits k w s)
@@ -38,48 +91,27 @@ module _ (w : List ℕ) (k n : ℕ) where
         go (yes z) = rw (eq-eqb (number_at w s) 0 z) tt
         go (no z) = rw (ne_eqb (number_at w s) 0 z, ne_eqb (number_at w s) k ne) tt
 
-    module _ (past : ℕ) (lt : past < n) where
-      pub after-here : number_at w (past + 1) ≡ k → after past ≡ past + 1
-      after-here e = one_more past lt ∙ find-here k w (n - (past + 1)) (past + 1) (sits-yes (past + 1) e)
+    pub find_is : (m s : ℕ) → 1 ≤ s → find has (range_with_len s m) ≡ answer (find_from w k m s)
+    find_is zero s h = sym (ap answer (find_none k w s))
+    find_is (suc m) s h = go (ℕ_discrete (number_at w s) k) (find_is m (s + 1) (omega arith))
+      where
+        go : Dec (number_at w s ≡ k) → find has (range_with_len (s + 1) m) ≡ answer (find_from w k m (s + 1)) → find has (range_with_len s (suc m)) ≡ answer (find_from w k (suc m) s)
+        go (yes e) r = rw (eq-eqb (number_at w s) k e) (sym (ap answer (find-here k w m s (sits-yes s e)) ∙ answer-some s h))
+        go (no e) r = rw (ne_eqb (number_at w s) k e) (r ∙ sym (ap answer (find-next k w m s (sits-no s e))))
 
-      pub after_next : (number_at w (past + 1) ≡ k → ⊥) → after past ≡ after (past + 1)
-      after_next ne = one_more past lt ∙ find-next k w (n - (past + 1)) (past + 1) (sits-no (past + 1) ne)
+-- a test of what stands in the places
+list_any-map : {A B : Type 0} (p : B → Bool) (f : A → B) (l : List A) → list_any p (map f l) ≡ list_any (λ a. p (f a)) l
+list_any-map p f [] = refl
+list_any-map p f (a ∷ l) = ap (λ (b : Bool). p (f a) || b) (list_any-map p f l)
 
-    -- ---- four slots at a time
-
-    step : (p q : ℕ) → p + 1 ≡ q → q ≤ n → has_number w k q ≡ false → after p ≡ after q
-    step p q e le f = subst (λ (j : ℕ). has_number w k j ≡ false → after p ≡ after j) e (λ g. after_next p (omega arith) (eqb-false (number_at w (p + 1)) k g)) f
-
-    pub four-missed : (past : ℕ) → FourLack n w k past → after past ≡ after (past + 4)
-    four-missed past f =
-        let le = f.there in
-        let a = or_no (has_number w k (past + 1)) _ f.none in
-        let b = or_no (has_number w k (past + 2)) _ a.1 in
-        let c = or_no (has_number w k (past + 3)) _ b.1 in
-        let d = or_no (has_number w k (past + 4)) _ c.1 in
-        step past (past + 1) refl (omega arith) a.0
-        ∙ step (past + 1) (past + 2) (omega arith) (omega arith) b.0
-        ∙ step (past + 2) (past + 3) (omega arith) (omega arith) c.0
-        ∙ step (past + 3) (past + 4) (omega arith) le d.0
-
--- 0 is no order's number
-pub find-zero : (w : List ℕ) (m s : ℕ) → find_from w 0 m s ≡ 0
-find-zero w zero s = find_none 0 w s
-find-zero w (suc m) s = go (ℕ_discrete (number_at w s) 0) ∙ find-zero w m (s + 1)
-  where
-    go : Dec (number_at w s ≡ 0) → find_from w 0 (suc m) s ≡ find_from w 0 m (s + 1)
-    go (yes z) = find-next 0 w m s (rw (eq-eqb (number_at w s) 0 z) tt)
-    go (no z) = find-next 0 w m s (rw (ne_eqb (number_at w s) 0 z, ne_eqb (number_at w s) 0 z) tt)
-
--- ---- the four tests of a number
-
--- a number that was read, against the one looked for
-pub has : (w : List ℕ) (k s r : ℕ) → r ≡ number_at w s → r ≡ k → has_number w k s ≡ true
-has w k s r e f = eq-eqb (number_at w s) k (sym e ∙ f)
-
-pub has-not : (w : List ℕ) (k s r : ℕ) → r ≡ number_at w s → (r ≡ k → ⊥) → has_number w k s ≡ false
-has-not w k s r e f = ne_eqb (number_at w s) k (λ z. f (e ∙ z))
-
-pub last-of-four : (a b c d : Bool) → a ≡ false → b ≡ false → c ≡ false → d ≡ (a || (b || (c || (d || false))))
-last-of-four a b c true p q r = sym (rw (p, q, r))
-last-of-four a b c false p q r = sym (rw (p, q, r))
+-- what is left to look at, where the first `past` slots were passed over
+pub found_past : (w : List ℕ) (k n past : ℕ) → 1 ≤ k → past ≤ n → past ≤ whole n w → list_any (has_number k) (take past (whole_slots n w)) ≡ false
+    → find (has w k) (range_with_len (past + 1) (n - past)) ≡ found w n k
+found_past w k n past some le few lack =
+    let words = λ (s : ℕ). reads w (base s) slot_words in
+    let lacking : list_any (has w k) (range_with_len 1 past) ≡ false =
+    sym (list_any-map (has_number k) words (range_with_len 1 past)) ∙ ap (list_any (has_number k)) (sym (take-map-range_with_len words 1 (whole n w) past few)) ∙ lack in
+    let next : past + 1 ≡ 1 + past = omega arith in
+    let all : past + (n - past) ≡ n = omega arith in
+    ap (λ (s : ℕ). find (has w k) (range_with_len s (n - past))) next ∙ sym (find-past w k past (n - past) 1 lacking) ∙ ap (λ (m : ℕ). find (has w k) (range_with_len 1 m)) all
+    ∙ find_is w k some n 1 (omega arith)

@@ -1,81 +1,40 @@
 // The look for an order.
-ghost use Rattle.std.specs.Prelude.{◌≡◌, true, ◌+◌, ◌-◌, ◌≤◌, length};
-ghost use Rattle.matching.specs.Lists.{any};
-ghost use Rattle.rules.specs.Calls.{find_from};
-ghost use Rattle.rules.specs.Layout.{board_words};
-ghost use Rattle.checking.specs.Slots.{four_after, FourLack, has_number};
+ghost use Rattle.std.specs.Prelude.{◌≡◌, false, ◌*◌, ◌≤◌, length, take};
+ghost use Rattle.std.specs.List.{list_any};
+ghost use Rattle.checking.specs.Found.{found};
+ghost use Rattle.checking.specs.Slots.{has_number};
 
-use crate::slots::number_in;
-use words::{NO_ORDER, NO_SLOT, board_words, number_at};
+use crate::slots::slots_of;
+use words::{NO_ORDER, SLOT_WORDS, number_at};
 
-// One of the four slots after `past` has number k.
-fn four_hold(board: &[u16], past: u16, k: u16) -> bool
-    requires { (past + 4 ≤ 65535) × (board_words (past + 4) ≤ length board.now) }
-    ensures { result ≡ any (has_number board.now k) (four_after past) }
+// One of the slots has number k.
+fn any_has(slots: &[[u16; SLOT_WORDS]], k: u16) -> bool
+    ensures { result ≡ list_any (has_number k) slots.now }
 {
-    if number_in(board, past + 1) == k {
-        return true;
-    }
-    if number_in(board, past + 2) == k {
-        return true;
-    }
-    if number_in(board, past + 3) == k {
-        return true;
-    }
-    number_in(board, past + 4) == k
+    slots.iter().any(|slot| slot[0] == k)
 }
 
-// Eight slots are left after `past`, and none of them has number k.
-fn eight_lack(board: &[u16], n: u16, k: u16, past: u16) -> bool
-    requires { (past ≤ n) × (board_words n ≤ length board.now) }
-    ensures { result ≡ true → FourLack n board.now k past × FourLack n board.now k (past + 4) }
+// So many eights of slots come before the first that has one with number k. Eight slots at a time is fast wherever the loop lies in memory;
+// one at a time takes up to three times as long where it lies badly.
+fn eights_before(slots: &[[u16; SLOT_WORDS]], k: u16) -> usize
+    ensures within { 8 * result ≤ length slots.now }
+    ensures lacking { list_any (has_number k) (take (8 * result) slots.now) ≡ false }
 {
-    if (n as usize) < past as usize + 8 {
-        return false;
-    }
-    if four_hold(board, past, k) {
-        return false;
-    }
-    !four_hold(board, past + 4, k)
+    let (eights, _) = slots.as_chunks::<8>();
+    eights
+        .iter()
+        .position(|eight| any_has(eight, k))
+        .unwrap_or(eights.len())
 }
 
-// The lowest slot after `past` that holds order k, 0 where none does; slot by slot, of any words.
-fn find_after(board: &[u16], n: u16, k: u16, past: u16) -> u16
-    requires { (1 ≤ k) × (past ≤ n) }
-    ensures { result ≡ find_from board.now k (n - past) (past + 1) }
-{
-    let mut seen = past;
-    while seen < n {
-        let s = seen + 1;
-        if number_at(board, s) == k {
-            return s;
-        }
-        seen = s;
-    }
-    NO_SLOT
-}
-
-// The lowest of all slots that holds order k, of a board that has its words. Eight at a time is what makes the look fast.
-fn find_fast(board: &[u16], n: u16, k: u16) -> u16
-    requires { (1 ≤ k) × (board_words n ≤ length board.now) }
-    ensures { result ≡ find_from board.now k n 1 }
-{
-    let mut past: u16 = 0;
-    while eight_lack(board, n, k, past) {
-        past += 8;
-    }
-    find_after(board, n, k, past)
-}
-
-// The lowest slot of 1 .. n that holds order k, 0 where none does: the one place that looks for an order.
-pub fn find(board: &[u16], n: u16, k: u16) -> u16
-    ensures { result ≡ find_from board.now k n 1 }
+// The lowest slot of 1 .. n that holds order k: the one place that looks for an order. What the eights leave is looked through slot by slot,
+// of a board that ends too early too.
+pub fn find(board: &[u16], n: u16, k: u16) -> Option<u16>
+    ensures { result ≡ found board.now n k }
 {
     if k == NO_ORDER {
-        return NO_SLOT;
+        return None;
     }
-    if board.len() < board_words(n) {
-        return find_after(board, n, k, 0);
-    }
-    find_fast(board, n, k)
+    let past = 8 * eights_before(slots_of(board, n), k) as u16;
+    (past + 1..=n).find(|&s| number_at(board, s) == k)
 }

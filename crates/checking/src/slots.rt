@@ -1,123 +1,74 @@
 // What the check asks of one slot.
-ghost use Rattle.std.specs.Prelude.{◌≡◌, ◌≤◌, take};
-ghost use Rattle.matching.specs.Lists.{member};
+ghost use Rattle.std.specs.Prelude.{◌≡◌, length};
 ghost use Rattle.rules.specs.Check.{zeros, low_label, held_fine, slot_fine};
-ghost use Rattle.rules.specs.Layout.{most_choices, slot_words, reads, base, number_at};
-ghost use Rattle.checking.specs.Slots.{InSlot, list_fine};
+ghost use Rattle.rules.specs.Layout.{slot_words, reads, base};
+ghost use Rattle.checking.specs.Slots.{list_fine, whole, whole_slots};
 
-use orders::row_rises;
+use orders::rises;
 use words::{
-    Loose, MOST_CHOICES, NO_ORDER, Open, SLOT_WORDS, label_at, open_of, order_at, start_of,
+    HEAD_WORDS, MOST_CHOICES, NO_ORDER, Order, SLOT_WORDS, label_at, number_at, order_at, start_of,
 };
 
-// The number of a slot that the board has: the walks over all slots look for its end once, before they start.
-pub(crate) fn number_in(board: &[u16], s: u16) -> u16
-    requires { InSlot board.now s }
-    ensures { result ≡ number_at board.now s }
+// Those of the slots 1 .. n that have all their words, the first of which is the number: a walk over them need not look for the board's end at each.
+pub(crate) fn slots_of(board: &[u16], n: u16) -> &[[u16; SLOT_WORDS]]
+    ensures words { result.now ≡ whole_slots n board.now }
+    ensures many { length result.now ≡ whole n board.now }
 {
-    board[start_of(s)]
+    let (slots, _) = board[HEAD_WORDS.min(board.len())..].as_chunks();
+    &slots[..slots.len().min(usize::from(n))]
 }
 
-fn all_zero(w: &[u16]) -> bool
-    ensures { result ≡ zeros w.now }
+fn all_zero(words: &[u16]) -> bool
+    ensures { result ≡ zeros words.now }
 {
-    let mut i: usize = 0;
-    while i < w.len() {
-        if w[i] != 0 {
-            return false;
-        }
-        i += 1;
-    }
-    true
+    words.iter().all(|&word| word == 0)
 }
 
 // All words of slot s are 0.
 fn is_blank(board: &[u16], s: u16) -> bool
-    requires { InSlot board.now s }
     ensures { result ≡ zeros (reads board.now (base s) slot_words) }
 {
-    let at = start_of(s);
-    all_zero(&board[at..at + SLOT_WORDS])
-}
-
-// Slot s is among the first `count` of the row.
-fn is_among(s: u16, count: usize, row: [u16; 8]) -> bool
-    requires { count ≤ most_choices }
-    ensures { result ≡ member s (take count row) }
-{
-    let mut i: usize = 0;
-    while i < count {
-        if s == row[i] {
-            return true;
-        }
-        i += 1;
-    }
-    false
+    let from = &board[start_of(s).min(board.len())..];
+    all_zero(&from[..from.len().min(SLOT_WORDS)])
 }
 
 // The list of an order in slot s, as it is written.
-fn list_fine(n: u16, s: u16, o: Loose) -> bool
-    ensures { result ≡ list_fine n s o }
+fn list_fine(n: u16, s: u16, order: &Order) -> bool
+    ensures { result ≡ list_fine n s order.now }
 {
-    let row = o.row;
-    if o.count == 0 {
-        return false;
-    }
-    if MOST_CHOICES < o.count {
-        return false;
-    }
-    let count = o.count as usize;
-    if !row_rises(n, count, row) {
-        return false;
-    }
-    if !all_zero(&row[count..]) {
-        return false;
-    }
-    is_among(s, count, row)
+    let list = order.list();
+    let unused = &order.row[list.len()..];
+    (1..=MOST_CHOICES).contains(&usize::from(order.count))
+        && rises(n, list)
+        && all_zero(unused)
+        && list.contains(&s)
 }
 
 // The label of slot s is at most 1 more than that of each slot open to its order. (Of slot s itself it is, so no look which slot it is.)
-fn labels_low(board: &[u16], s: u16, choices: Open) -> bool
-    requires { choices.count ≤ most_choices }
-    ensures { result ≡ low_label board.now s (take choices.count choices.row) }
+fn labels_low(board: &[u16], s: u16, choices: &[u16]) -> bool
+    ensures { result ≡ low_label board.now s choices.now }
 {
-    let count = choices.count;
-    let row = choices.row;
-    let mine = label_at(board, s);
-    let mut i: usize = 0;
-    while i < count {
-        if label_at(board, row[i]) as usize + 1 < mine as usize {
-            return false;
-        }
-        i += 1;
-    }
-    true
+    let least = label_at(board, s).saturating_sub(1);
+    choices.iter().all(|&slot| least <= label_at(board, slot))
 }
 
 // What the check asks of a slot that holds an order.
+#[tactic(auto, unfolding(rules::specs::Check::held_fine, matching::specs::Orders::open_slots))]
 fn held_fine(board: &[u16], n: u16, s: u16) -> bool
     ensures { result ≡ held_fine n board.now s }
 {
-    let o = order_at(board, s);
-    if !list_fine(n, s, o) {
-        return false;
-    }
+    let order = order_at(board, s);
     let label = label_at(board, s);
-    if label == 0 {
-        return false;
-    }
-    if n < label {
-        return false;
-    }
-    labels_low(board, s, open_of(o))
+    list_fine(n, s, &order) && (1..=n).contains(&label) && labels_low(board, s, order.open_slots())
 }
 
+#[tactic(auto, unfolding(rules::specs::Check::slot_fine))]
 pub(crate) fn slot_fine(board: &[u16], n: u16, s: u16) -> bool
-    requires { InSlot board.now s }
     ensures { result ≡ slot_fine n board.now s }
 {
-    if number_in(board, s) == NO_ORDER {
-        return is_blank(board, s);
+    if number_at(board, s) == NO_ORDER {
+        is_blank(board, s)
+    } else {
+        held_fine(board, n, s)
     }
-    held_fine(board, n, s)
 }

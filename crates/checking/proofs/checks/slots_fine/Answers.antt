@@ -1,13 +1,12 @@
-use mathlib.Core.Path.{sym, ◌∙◌}
-use native.Mathlib.Omega.{arith}
-use Rattle.matching.specs.Lists.{slots}
-use Rattle.matching.proofs.Seated.{in-slots}
+use Rattle.std.proofs.Common.{◌∙◌, rules, tests, arith}
+use Rattle.std.proofs.lemmas.Iterator.Search.{all_from_yields_List}
 use Rattle.rules.specs.Check.{slot_fine}
-use Rattle.checking.proofs.RowWalks.{all-false}
+use Rattle.checking.proofs.Inclusive.{YieldsList-from_inclusive, all_slots}
 use Rattle.checking.proofs.checks.slots_fine.Goals as goal
 
-pub returns-then-not-slot_fine : goal.returns-then-not-slot_fine
-returns-then-not-slot_fine c =
-    let a = c.args in
-    let l = c.loop-s in
-    sym (all-false (slot_fine a.n a.board.now) (slots a.n) (in-slots a.n l.s l.invariant.0 (omega arith)) (sym c.slot_fine.ensures ∙ c.if-not-slot_fine.true))
+pub returns : goal.returns
+returns c =
+    let n = c.args.n in
+    let test = slot_fine n c.args.board.now in
+    let range = c.new.ensures in
+    all_from_yields_List test _ _ _ c.all.ensures.ran (YieldsList-from_inclusive 1 n n range.start range.end range.exhausted (omega arith)) (λ x b q k. search (rules, tests)) ∙ all_slots test n

@@ -1,10 +1,27 @@
-use mathlib.Core.Path.{sym, ap, ◌∙◌}
-use Prim.Native.Nat.{ℕ}
-use Rattle.rules.specs.Calls.{find_from}
-use Rattle.checking.proofs.Looking.{find-zero}
+use Rattle.std.proofs.Common.{◌≡◌, ◌∙◌, sym, ap, subst, ℕ, List, take, false, ◌+◌, ◌-◌, ◌*◌, rules, tests, arith}
+use Rattle.std.specs.List.{list_any}
+use Rattle.std.proofs.lemmas.Iterator.Search.{find_from_yields_List}
+use Rattle.std.proofs.lemmas.Iterator.Adapters.{option_map_id}
+use Rattle.checking.proofs.Inclusive.{YieldsList-from_inclusive}
+use Rattle.checking.specs.Found.{found}
+use Rattle.checking.specs.Slots.{has_number}
+use Rattle.checking.proofs.Looking.{has, answer, find-zero, found_past}
 use Rattle.checking.proofs.finding.find.Goals as goal
 
 pub returns-then-k-eq-NO_ORDER : goal.returns-then-k-eq-NO_ORDER
 returns-then-k-eq-NO_ORDER c =
-    let a = c.args in
-    sym (ap (λ (k : ℕ). find_from a.board.now k a.n 1) c.if-k-eq-NO_ORDER.true ∙ find-zero a.board.now a.n 1)
+    let w = c.args.board.now in
+    let n = c.args.n in
+    sym (ap (λ (k : ℕ). found w n k) c.if-k-eq-NO_ORDER.true ∙ ap answer (find-zero w n 1))
+
+pub returns : goal.returns
+returns c =
+    let w = c.args.board.now in
+    let n = c.args.n in
+    let k = c.args.k in
+    let past = 8 * c.eights_before.result in
+    let range = c.new.ensures in
+    let lack = subst (λ (l : List (List ℕ)). list_any (has_number k) (take past l) ≡ false) c.slots_of.ensures.words c.eights_before.ensures.lacking in
+    sym (option_map_id c.find.result)
+    ∙ find_from_yields_List (has w k) _ _ c.find.result c.find.ensures.ran (YieldsList-from_inclusive (past + 1) n (n - past) range.start range.end range.exhausted (omega arith)) (λ x b q k. search (rules, tests))
+    ∙ found_past w k n past (omega arith) (omega arith) (omega arith) lack

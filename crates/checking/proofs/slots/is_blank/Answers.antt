@@ -1,17 +1,10 @@
-use mathlib.Core.Path.{ap, ◌∙◌}
-use Prim.Native.Nat.{ℕ, ◌+◌, ◌-◌}
-use native.Mathlib.Nat.{add-sub_cancel_left}
-use native.Mathlib.Omega.{arith}
-use lib.ListN.{take, drop}
+use Rattle.std.proofs.Common.{◌∙◌, ap, ℕ}
 use Rattle.rules.specs.Check.{zeros}
-use Rattle.rules.specs.Layout.{base, slot_words}
-use Rattle.checking.proofs.RowWalks.{reads-slice}
+use Rattle.rules.specs.Layout.{reads}
+use Rattle.checking.proofs.Chunks.{zeros_there}
 use Rattle.checking.proofs.slots.is_blank.Goals as goal
 
 pub returns : goal.returns
 returns c =
-    let a = c.args in
-    c.all_zero.ensures
-    ∙ ap (λ (i : ℕ). zeros (take (i + slot_words - i) (drop i a.board.now))) c.start_of-at.ensures
-    ∙ ap (λ (k : ℕ). zeros (take k (drop (base a.s) a.board.now))) (add-sub_cancel_left (base a.s) slot_words)
-    ∙ ap zeros (reads-slice a.board.now (base a.s) slot_words (omega (arith, c.requires.low, c.requires.fits)))
+    c.all_zero.ensures ∙ zeros_there c.args.board.now c.start_of.result c.min.result c.min-2.result 11 c.min.ensures c.min-2.ensures
+    ∙ ap (λ (i : ℕ). zeros (reads c.args.board.now i 11)) c.start_of.ensures

@@ -1,10 +1,14 @@
-use mathlib.Core.Path.{sym, ◌∙◌}
-use native.Mathlib.Omega.{arith}
-use Rattle.checking.proofs.RowWalks.{low-stop}
+use Rattle.std.proofs.Common.{ℕ, ◌-◌, ◌∙◌, rules, tests, leb}
+use Rattle.std.proofs.lemmas.Iterator.{YieldsList-from_slice}
+use Rattle.std.proofs.lemmas.Iterator.Search.{all_from_yields_List}
+use Rattle.rules.specs.Layout.{label_at}
+use Rattle.checking.proofs.Tests.{low_same}
 use Rattle.checking.proofs.slots.labels_low.Goals as goal
 
-pub returns-then-label_at-mine : goal.returns-then-label_at-mine
-returns-then-label_at-mine c =
-    let a = c.args in
-    let m = c.label_at-mine.ensures in
-    sym (low-stop a.choices.row a.choices.count c.loop-i.i c.loop-i.invariant.1 (omega arith) a.board.now a.s (omega (arith, m, c.label_at.ensures, c.if-label_at-mine.true))) ∙ c.loop-i.invariant.2
+pub returns : goal.returns
+returns c =
+    let w = c.args.board.now in
+    let s = c.args.s in
+    let xs = c.args.choices.now in
+    let test = λ (t : ℕ). leb (label_at w s - 1) (label_at w t) in
+    all_from_yields_List test _ _ _ c.all.ensures.ran (YieldsList-from_slice xs cc) (λ x b q k. search (rules, tests)) ∙ low_same w s xs
