@@ -1,9 +1,5 @@
 -- Where the line reader stands after some lines, by computation.
-use mathlib.Core.Bool.{Bool}
-use mathlib.Core.List.{List, [], ◌∷◌, ◌++◌}
-use Prim.Native.Nat.{ℕ}
-use lib.Dec.{T, eqb}
-use lib.ListN.{get_or, replicate}
+use Rattle.std.proofs.Common.{ℕ, Bool, List, [], ◌∷◌, ◌++◌, T, eqb, get_or, replicate}
 use Rattle.matching.specs.Lists.{all}
 use Rattle.rules.specs.InputLines.{column_bytes, is_column}
 use Rattle.rules.specs.Letters.{letter_s, letter_a, letter_p, byte_of, letter_named}
