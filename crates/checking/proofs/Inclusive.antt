@@ -30,8 +30,8 @@ YieldsList-from_inclusive {s} a b n ea eb ee en =
     subst (YieldsList nat_range_inclusive_steps (λ x. x) s)
     ((λ i. range_with_len (ea i) (left (ea i) (eb i) (ee i))) ∙ ap (range_with_len a) (omega arith))
     (YieldsList-from_shown nat_range_inclusive_steps (λ x. x) rest
-        (λ s t p. length-range_with_len _ _ ∙ p.1.0)
-        (λ s x t p. next (range_inclusive_exhausted t) _ x _ _ _ p.1.0 p.1.1 p.1.2 (λ z. ap (left (range_inclusive_start t) (range_inclusive_end t)) z)) s)
+    (λ s t p. length-range_with_len _ _ ∙ p.1.0)
+    (λ s x t p. next (range_inclusive_exhausted t) _ x _ _ _ p.1.0 p.1.1 p.1.2 (λ z. ap (left (range_inclusive_start t) (range_inclusive_end t)) z)) s)
 
 -- one more
 range_more : (a n : ℕ) → range_with_len a (suc n) ≡ range_with_len a n ++ (a + n) ∷ []

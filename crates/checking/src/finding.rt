@@ -15,7 +15,7 @@ fn any_has(slots: &[[u16; SLOT_WORDS]], k: u16) -> bool
 }
 
 // So many eights of slots come before the first that has one with number k. Eight slots at a time is fast wherever the loop lies in memory;
-// one at a time takes up to three times as long where it lies badly.
+// one at a time takes more than twice as long where it lies badly.
 fn eights_before(slots: &[[u16; SLOT_WORDS]], k: u16) -> usize
     ensures within { 8 * result ≤ length slots.now }
     ensures lacking { list_any (has_number k) (take (8 * result) slots.now) ≡ false }

@@ -20,8 +20,7 @@ returns c =
     let n = c.args.n in
     let k = c.args.k in
     let past = 8 * c.eights_before.result in
-    let range = c.new.ensures in
     let lack = subst (λ (l : List (List ℕ)). list_any (has_number k) (take past l) ≡ false) c.slots_of.ensures.words c.eights_before.ensures.lacking in
     sym (option_map_id c.find.result)
-    ∙ find_from_yields_List (has w k) _ _ c.find.result c.find.ensures.ran (YieldsList-from_inclusive (past + 1) n (n - past) range.start range.end range.exhausted (omega arith)) (λ x b q k. search (rules, tests))
+    ∙ find_from_yields_List (has w k) _ _ c.find.result c.find.ensures.ran (YieldsList-from_inclusive (past + 1) n (n - past) (omega arith) (omega arith) c.new.ensures.exhausted (omega arith)) (λ x b q k. search (rules, tests))
     ∙ found_past w k n past (omega arith) (omega arith) (omega arith) lack
