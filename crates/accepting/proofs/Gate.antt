@@ -1,0 +1,41 @@
+-- The late checks of an order, and what comes after them.
+use Rattle.std.proofs.Common.{◌≡◌, ℕ, zero, suc, ◌≤◌, true, cond, eqb, List, [], ◌∷◌, ◌++◌, take, replicate, refl, sym, ap, ◌∙◌, arith}
+use Rattle.std.proofs.Math.Dec.{T}
+use Rattle.std.proofs.lemmas.Bool.Decides.{nat_tests}
+use Rattle.matching.proofs.Counting.{and_r}
+use Rattle.rules.specs.Bringing.{answer, bring_in}
+use Rattle.rules.specs.Calls.{Call, first, order, on_board, order_checks, is_held, find_from, late, accept}
+use Rattle.rules.specs.Known.{act_tidied, past_gate}
+use Rattle.rules.specs.Layout.{most_choices, size}
+use Rattle.rules.proofs.Finding.{held_found}
+use Rattle.rules.proofs.Bools.{of-true}
+use Rattle.orders.proofs.Verdicts.{fine}
+use Rattle.answers.proofs.NumberLaws.{code-some}
+
+-- none of 7 to 10 turns the order down: so 11 decides, by what the look finds
+pub last : (k c : ℕ) (row w : List ℕ) → 0 ≡ first (order_checks (size w) k c row []) → first (late (accept k c row) w) ≡ cond (eqb (find_from w k (size w) 1) 0) 0 11
+last k c row w e = fine (size w) k c row e ((11, is_held k w) ∷ []) ∙ ap (λ b. cond b 11 0) (held_found k w) ∙ grind (arith, nat_tests)
+
+-- turned down, by the first check that fails
+pub turned : (q : Call) (w t : List ℕ) → 1 ≤ first (late q w) → past_gate q w t ≡ answer (first (late q w)) 0 w t
+unfolding past_gate
+turned q w t some = grind (arith, nat_tests)
+
+-- A row that ends before the count is filled with zeros, and those are turned down: so the list that is judged is the row's own.
+own : (n c m more : ℕ) (row : List ℕ) → c ≤ m → c ≤ more → T (on_board n (take c (take m (row ++ replicate more 0)))) → take c (take m (row ++ replicate more 0)) ≡ take c row
+own n zero m more row h k o = refl
+own n (suc c) zero more row h k o = absurd (omega arith)
+own n (suc c) (suc m) more (x ∷ row) h k o = ap (λ (l : List ℕ). x ∷ l) (own n c m more row (omega arith) (omega arith) (and_r _ _ o))
+own n (suc c) (suc m) zero [] h k o = absurd (omega arith)
+own n (suc c) (suc m) (suc more) [] h k o = absurd o
+
+-- no check turns it down
+pub goes : (k c : ℕ) (row w t : List ℕ) → 0 ≡ first (late (accept k c row) w) → past_gate (accept k c row) w t ≡ bring_in w t (record { number = k; list = take c row })
+unfolding past_gate act_tidied
+goes k c row w t e =
+    let few : c ≤ most_choices = grind (arith, nat_tests) in
+    let on : on_board (size w) (order k c row).list ≡ true = grind (arith, nat_tests) in
+    rw (sym e) (ap (λ (l : List ℕ). bring_in w t (record { number = k; list = l })) (own (size w) c most_choices most_choices row few few (of-true _ on)))
+
+-- what comes after the gate
+pub ruleset taking = (turned, goes, code-some)
