@@ -1,1 +1,1 @@
-pub mod TakingOut
+pub mod Gate
