@@ -1,4 +1,4 @@
-// The calls of document 01 on a lent board. `perform` does each of them by what is known of board and work words, and says what is known after it;
+// The calls of document 01 on a lent board. `perform` does each of them by what is known of board and work words, and keeps what is known true;
 // a single call finds that out first.
 #![tactic(auto)]
 
@@ -12,43 +12,28 @@ ghost use Rattle.rules.specs.Calls.{
   withdraw as withdraw_call,
   print as print_call,
 };
-ghost use Rattle.rules.specs.Known.{gate_of, few_of, past_gate, swept, known_opened};
+ghost use Rattle.rules.specs.Known.{gate_of, few_of, past_gate, known_opened};
 ghost use Rattle.answers.specs.Numbers.{gate_number, said, Opens};
 ghost use Rattle.checking.specs.Known.{known_of};
 ghost use Rattle.board.specs.Requests.{call_for, Counts, LearnsPast, Performs};
 
 use accepting::take_order;
-pub use answers::{Answer, Refusal, blocked};
-use answers::{Gate, shown_by};
+use answers::shown_by;
+pub use answers::{Answer, Refusal, Rejection, blocked};
 pub use checking::check;
 use checking::{Known, assess, short_for};
 use storing::{put_size, zero_front};
 use withdrawing::take_out;
+pub use words::Order;
 use words::{MOST_SLOTS, board_words, size_of, work_words};
 
 // "open a board, accept an order, withdraw one, print"
-#[derive(Clone, Copy)]
-pub enum Ask {
-    Open,
-    Accept,
-    Withdraw,
+#[derive(Clone, Copy, Debug, PartialEq, Eq)]
+pub enum Request {
+    Open(u16),
+    Accept(Order),
+    Withdraw(u16),
     Print,
-}
-
-// A call: the size to open or the order's number; the count and the row are an order's.
-#[derive(Clone, Copy)]
-pub struct Request {
-    pub ask: Ask,
-    pub number: u16,
-    pub count: u16,
-    pub row: [u16; 8],
-}
-
-// The answer, and what is known after the call.
-#[derive(Clone, Copy)]
-pub struct Performed {
-    pub answer: Answer,
-    pub known: Known,
 }
 
 // n and zeros.
@@ -60,236 +45,148 @@ fn put_opened(board: &mut [u16], n: u16)
 }
 
 // An opening's checks, 3 and 4.
-fn open_gate(board: &[u16], n: u16) -> Gate
+fn open_gate(board: &[u16], n: u16) -> Result<(), Refusal>
     ensures { gate_number result ≡ first (open_checks n board.now) }
 {
-    if n == 0 {
-        return Gate::Refused(Refusal::BadSize);
-    }
-    if MOST_SLOTS < n {
-        return Gate::Refused(Refusal::BadSize);
+    if n == 0 || MOST_SLOTS < n {
+        return Err(Refusal::BadSize);
     }
     if short_for(n, board) {
-        return Gate::Refused(Refusal::Short);
+        return Err(Refusal::Short);
     }
-    Gate::Passed
+    Ok(())
 }
 
 // What the early checks say: of a call that reads the board it is known.
-fn gate_for(q: Request, board: &[u16], known: Known) -> Gate
-    ensures { gate_number result ≡ gate_of (known_of known) (call_for q) board.now }
+fn gate_for(request: &Request, board: &[u16], known: Known) -> Result<(), Refusal>
+    ensures { gate_number result ≡ gate_of (known_of known) (call_for request.now) board.now }
 {
-    let ask = q.ask;
-    let gate = known.gate;
-    match ask {
-        Ask::Open => {
-            return open_gate(board, q.number);
-        }
-        Ask::Accept => {
-            return gate;
-        }
-        Ask::Withdraw => {
-            return gate;
-        }
-        Ask::Print => {
-            return gate;
-        }
+    match request {
+        Request::Open(n) => open_gate(board, *n),
+        Request::Accept(_) | Request::Withdraw(_) | Request::Print => known.gate,
     }
 }
 
 // So many work words are to be cleared: an opening leaves them.
-fn few_for(q: Request, known: Known) -> usize
-    ensures { result ≡ few_of (known_of known) (call_for q) }
+fn few_for(request: &Request, known: Known) -> usize
+    ensures { result ≡ few_of (known_of known) (call_for request.now) }
 {
-    let ask = q.ask;
-    match ask {
-        Ask::Open => 0,
-        Ask::Accept => known.few,
-        Ask::Withdraw => known.few,
-        Ask::Print => known.few,
+    match request {
+        Request::Open(_) => 0,
+        Request::Accept(_) | Request::Withdraw(_) | Request::Print => known.few,
     }
 }
 
 // An accepted P counts n.
+#[tactic(auto, using(crate::proofs::Performing::prints))]
 fn slots_counted(board: &[u16]) -> Answer
     ensures { Counts board.now result }
 {
-    Answer::Accepted(size_of(board) as u64)
+    Ok(u64::from(size_of(board)))
 }
 
 // Past the gate, with work words that are cleared: the late checks, and what the call does.
-fn past_gate(q: Request, board: &mut [u16], work: &mut [u16]) -> Answer
-    ensures { said result board.new work.new ≡ past_gate (call_for q) board.old work.old }
+#[tactic(auto, using(crate::proofs::Performing::opens))]
+fn past_gate(request: &Request, board: &mut [u16], work: &mut [u16]) -> Answer
+    ensures { said result board.new work.new ≡ past_gate (call_for request.now) board.old work.old }
 {
-    let ask = q.ask;
-    match ask {
-        Ask::Open => {
-            put_opened(board, q.number);
-            return Answer::Accepted(0);
+    match request {
+        Request::Open(n) => {
+            put_opened(board, *n);
+            Ok(0)
         }
-        Ask::Accept => {
-            let row = q.row;
-            return take_order(board, work, q.number, q.count, row);
-        }
-        Ask::Withdraw => {
-            return take_out(board, q.number);
-        }
-        Ask::Print => {
-            return slots_counted(board);
-        }
+        Request::Accept(order) => take_order(board, work, order),
+        Request::Withdraw(number) => take_out(board, *number),
+        Request::Print => slots_counted(board),
     }
 }
 
 // Check 6, of a board that passes the check.
-fn work_gate(len: usize, all: usize) -> Gate
+fn work_gate(len: usize, all: usize) -> Result<(), Refusal>
     ensures { gate_number result ≡ cond (ltb len all) 6 0 }
 {
     if len < all {
-        return Gate::Refused(Refusal::LittleWork);
+        return Err(Refusal::LittleWork);
     }
-    Gate::Passed
+    Ok(())
 }
 
-// Work words that may be something else than 0, where a board of m slots was opened after one of n.
-fn few_opened(few: usize, m: u16, n: u16, all: usize) -> usize
-    ensures { result ≡ cond (leb m n) (min few all) all }
-{
-    if n < m {
-        return all;
-    }
-    if few < all {
-        return few;
-    }
-    all
-}
-
+// What is known where a board of m slots was opened after one of n: of the work words of a larger board nothing was.
 fn known_opened(known: Known, m: u16, n: u16, len: usize) -> Known
     ensures { known_of result ≡ known_opened (known_of known) m n len }
 {
     let all = work_words(m);
-    let gate = work_gate(len, all);
-    let few = few_opened(known.few, m, n, all);
-    Known { gate, few }
-}
-
-// A sound board with enough work words.
-fn swept_known(few: usize) -> Known
-    ensures { known_of result ≡ swept few }
-{
+    let few = if n < m { all } else { known.few.min(all) };
     Known {
-        gate: Gate::Passed,
+        gate: work_gate(len, all),
         few,
     }
 }
 
-// What is known past the gate, after the answer.
-fn known_past(known: Known, q: Request, n: u16, a: Answer, len: usize) -> Known
-    ensures { LearnsPast known q n a len result }
+// What is known past the gate, after the answer: of any call but an opening, a sound board with enough work words.
+fn known_past(known: Known, request: &Request, n: u16, a: Answer, len: usize) -> Known
+    ensures { LearnsPast known request.now n a len result }
 {
-    let ask = q.ask;
-    match ask {
-        Ask::Open => {
-            return known_opened(known, q.number, n, len);
-        }
-        Ask::Accept => {
-            return swept_known(shown_by(a));
-        }
-        Ask::Withdraw => {
-            return swept_known(shown_by(a));
-        }
-        Ask::Print => {
-            return swept_known(shown_by(a));
-        }
+    match request {
+        Request::Open(m) => known_opened(known, *m, n, len),
+        Request::Accept(_) | Request::Withdraw(_) | Request::Print => Known {
+            gate: Ok(()),
+            few: shown_by(a),
+        },
     }
 }
 
 // Any call, by what is known, as `step` has it: the gate, the work words, then the call itself; and what is known after it.
-pub fn perform(q: Request, board: &mut [u16], work: &mut [u16], known: Known) -> Performed
-    ensures { Performs q known board.old work.old result board.new work.new }
+#[tactic(auto, using(crate::proofs::Performing::performing))]
+pub fn perform(request: &Request, board: &mut [u16], work: &mut [u16], known: &mut Known) -> Answer
+    ensures { Performs request.now known.old board.old work.old result known.new board.new work.new }
 {
-    let gate = gate_for(q, board, known);
-    match gate {
-        Gate::Refused(r) => {
-            return Performed {
-                answer: Answer::Refused(r),
-                known,
-            };
-        }
-        Gate::Passed => {
-            let n = size_of(board);
-            zero_front(work, few_for(q, known));
-            let answer = past_gate(q, board, work);
-            let after = known_past(known, q, n, answer, work.len());
-            return Performed {
-                answer,
-                known: after,
-            };
-        }
-    }
+    gate_for(request, board, *known)?;
+    let n = size_of(board);
+    zero_front(work, few_for(request, *known));
+    let answer = past_gate(request, board, work);
+    *known = known_past(*known, request, n, answer, work.len());
+    answer
 }
 
 // A call that finds out first what is known.
-fn call(q: Request, board: &mut [u16], work: &mut [u16]) -> Answer
-    ensures { said result board.new work.new ≡ step (call_for q) board.old work.old }
+#[tactic(auto, using(rules::proofs::Known::performs))]
+fn call(request: &Request, board: &mut [u16], work: &mut [u16]) -> Answer
+    ensures { said result board.new work.new ≡ step (call_for request.now) board.old work.old }
 {
-    let known = assess(board, work);
-    let p = perform(q, board, work, known);
-    p.answer
+    let mut known = assess(board, work);
+    perform(request, board, work, &mut known)
 }
 
 // It is lent no work words: the same two parts as `perform` has for it.
+#[tactic(auto, using(crate::proofs::Performing::opening))]
 pub fn open_board(board: &mut [u16], n: u16) -> Answer
     ensures { Opens n board.old board.new result }
 {
-    let gate = open_gate(board, n);
-    match gate {
-        Gate::Refused(r) => {
-            return Answer::Refused(r);
-        }
-        Gate::Passed => {
-            put_opened(board, n);
-            return Answer::Accepted(0);
-        }
-    }
+    open_gate(board, n)?;
+    put_opened(board, n);
+    Ok(0)
 }
 
-pub fn accept(board: &mut [u16], work: &mut [u16], number: u16, count: u16, row: [u16; 8]) -> Answer
-    ensures { said result board.new work.new ≡ step (accept_call number count row) board.old work.old }
+pub fn accept(board: &mut [u16], work: &mut [u16], order: &Order) -> Answer
+    ensures { said result board.new work.new ≡ step (accept_call order.now.number order.now.count order.now.row) board.old work.old }
 {
-    let q = Request {
-        ask: Ask::Accept,
-        number,
-        count,
-        row,
-    };
-    call(q, board, work)
+    call(&Request::Accept(*order), board, work)
 }
 
 pub fn withdraw(board: &mut [u16], work: &mut [u16], number: u16) -> Answer
     ensures { said result board.new work.new ≡ step (withdraw_call number) board.old work.old }
 {
-    let q = Request {
-        ask: Ask::Withdraw,
-        number,
-        count: 0,
-        row: [0; 8],
-    };
-    call(q, board, work)
+    call(&Request::Withdraw(number), board, work)
 }
 
 // The board is lent for reading only, so that `perform`, which may write it, cannot be asked: its own parts for a print.
+#[tactic(auto, using(crate::proofs::Performing::printing))]
 pub fn print(board: &[u16], work: &mut [u16]) -> Answer
     ensures { said result board.now work.new ≡ step print_call board.now work.old }
 {
     let known = assess(board, work);
-    let gate = known.gate;
-    match gate {
-        Gate::Refused(r) => {
-            return Answer::Refused(r);
-        }
-        Gate::Passed => {
-            zero_front(work, known.few);
-            return slots_counted(board);
-        }
-    }
+    known.gate?;
+    zero_front(work, known.few);
+    slots_counted(board)
 }
