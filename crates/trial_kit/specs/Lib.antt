@@ -1,5 +1,6 @@
 -- Definitions that the kit's contracts cite.
-pub mod Words
-pub mod Tallies
+pub mod Marks
 pub mod Texts
-pub mod Asks
+pub mod Seeds
+pub mod Slots
+pub mod Tallies

@@ -1,36 +1,27 @@
--- Counts of two words each, and numbers drawn from a seed of two words. Assumes nothing.
-use Rattle.std.specs.Prelude.{Bool, cond, List, ℕ, ◌+◌, ◌*◌, ◌/◌, ◌%◌, eqb}
-use Rattle.trial_kit.specs.Words.{word_at, put}
+-- Counts of comparisons, each of 32 bits. Assumes nothing.
+use Rattle.std.specs.Prelude.{Bool, cond, ℕ, ◌+◌, ◌%◌}
+use Rattle.trial_kit.specs.declared.tallies.Score.{Score}
+use Rattle.trial_kit.specs.declared.tallies.Tally.{Tally}
 
-abbrev pub wide : List ℕ → ℕ → ℕ
-wide w i = word_at w i 0 + 65536 * word_at w i 1
+abbrev pub more : ℕ → ℕ → ℕ
+more n k = (n + k) % 4294967296
 
-abbrev pub put_wide : List ℕ → ℕ → ℕ → List ℕ
-put_wide w i v = put (put w i 0 (v % 65536)) i 1 (v / 65536 % 65536)
+-- one comparison more, and one more that is wrong where it is not right
+abbrev pub counted : Bool → Score → Score
+counted right s = record { tried = more s.tried 1; wrong = cond right s.wrong (more s.wrong 1) }
 
-unfoldable pub counted : List ℕ → ℕ → List ℕ
-counted w i = put_wide w i (wide w i + 1)
+abbrev pub added : Score → Score → Score
+added s t = record { tried = more s.tried t.tried; wrong = more s.wrong t.wrong }
 
--- one comparison more, tallied behind `at`; one more that is wrong where it is not good
-abbrev pub noted : Bool → ℕ → List ℕ → List ℕ
-noted good at w = cond good (counted w at) (counted (counted w at) (at + 2))
+abbrev pub none : Score
+none = record { tried = 0; wrong = 0 }
 
--- the counts at `from` are added to those at `to`, and begin anew
-abbrev pub carried : List ℕ → ℕ → ℕ → List ℕ
-carried w from to = put_wide (put_wide w to (wide w to + wide w from)) from 0
+abbrev pub next_case : Tally → Tally
+next_case t = record t { case = more t.case 1 }
 
--- a group's comparisons, tried and wrong, are added to those of all groups
-abbrev pub told : List ℕ → List ℕ
-told w = carried (carried w 0 6) 2 8
+abbrev pub noted : Bool → Tally → Tally
+noted right t = record t { group = counted right t.group }
 
--- where the seed stands
-abbrev pub seed_at : ℕ
-seed_at = 10
-
--- the seed after this one
-abbrev pub next_seed : ℕ → ℕ
-next_seed x = (x * 1664525 + 1013904223) % 4294967296
-
--- a number below k out of a seed's upper half; 0 where k is 0
-abbrev pub drawn : ℕ → ℕ → ℕ
-drawn x k = cond (eqb k 0) 0 (x / 65536 % k)
+-- a group's comparisons are added to those of all groups, and begin anew
+abbrev pub told : Tally → Tally
+told t = record t { group = none; all = added t.all t.group }

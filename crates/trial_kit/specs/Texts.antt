@@ -1,18 +1,6 @@
--- Lines, and the numbers of a line. Assumes nothing.
-use Rattle.std.specs.Prelude.{Bool, cond, false, List, ℕ, zero, suc, ◌+◌, ◌-◌, ◌*◌, eqb, leb, ltb, length, get_or}
-use Rattle.trial_kit.specs.Words.{word_at, put}
-
--- the first line feed among k bytes from i on, or the index behind them
-unfoldable pub feed_from : List ℕ → ℕ → ℕ → ℕ
-feed_from s zero i = i
-feed_from s (suc k) i = cond (eqb (get_or s i 0) 10) i (feed_from s k (i + 1))
-
-abbrev pub line_end : List ℕ → ℕ → ℕ
-line_end s from = feed_from s (length s - from) from
-
--- where the numbers after `>` go
-abbrev pub expected : ℕ
-expected = 32
+-- The numbers of a text. Assumes nothing.
+use Rattle.std.specs.Prelude.{Bool, cond, false, List, [], ◌∷◌, ◌++◌, ℕ, ◌+◌, ◌-◌, ◌*◌, leb, Option, Some, None, unwrap_or}
+use Rattle.std.specs.Option.{option_to_list}
 
 abbrev pub is_digit : ℕ → Bool
 is_digit b = cond (leb 48 b) (leb b 57) false
@@ -21,20 +9,7 @@ is_digit b = cond (leb 48 b) (leb b 57) false
 abbrev pub longer : ℕ → ℕ → ℕ
 longer v b = cond (leb (10 * v + b - 48) 65535) (10 * v + b - 48) 0
 
--- the place of the next digit after byte i: a number ends where no digit follows
-unfoldable pub next_place : List ℕ → ℕ → ℕ → ℕ
-next_place s i at =
-    cond (eqb (get_or s i 0) 62) expected (cond (is_digit (get_or s i 0)) (cond (is_digit (get_or s (i + 1) 0)) at (cond (ltb at 60) (at + 1) at)) at)
-
--- the words after byte i
-unfoldable pub after_byte : List ℕ → ℕ → ℕ → ℕ → List ℕ → List ℕ
-after_byte s i base at w = cond (is_digit (get_or s i 0)) (put w base at (longer (word_at w base at) (get_or s i 0))) w
-
--- k bytes from i on
-unfoldable pub places : List ℕ → ℕ → ℕ → ℕ → ℕ
-places s zero i at = at
-places s (suc k) i at = places s k (i + 1) (next_place s i at)
-
-unfoldable pub spelt : List ℕ → ℕ → ℕ → ℕ → ℕ → List ℕ → List ℕ
-spelt s base zero i at w = w
-spelt s base (suc k) i at w = spelt s base k (i + 1) (next_place s i at) (after_byte s i base at w)
+-- the numbers of a text, the first of which has this value so far: a number ends where no digit follows
+abbrev pub numbers_of : Option ℕ → List ℕ → List ℕ
+numbers_of v [] = option_to_list v
+numbers_of v (b ∷ bs) = cond (is_digit b) (numbers_of (Some (longer (unwrap_or v 0) b)) bs) (option_to_list v ++ numbers_of None bs)

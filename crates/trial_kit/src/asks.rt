@@ -1,46 +1,19 @@
-// Calls by their letter.
+// Calls as requests.
 ghost use Rattle.std.specs.Prelude.{◌≡◌};
+ghost use Rattle.rules.specs.Calls.{step};
 ghost use Rattle.answers.specs.Numbers.{said};
-ghost use Rattle.trial_kit.specs.Words.{row_at};
-ghost use Rattle.trial_kit.specs.Asks.{asked};
+ghost use Rattle.board.specs.Requests.{call_for};
 
-use crate::get;
-use board::{Answer, accept, print, withdraw};
+use board::{Answer, Request, accept, open_board, print, withdraw};
 
-// The letters of calls, as a script has them.
-pub const ACCEPT: u16 = 97;
-
-pub const WITHDRAW: u16 = 119;
-
-pub const PRINT: u16 = 112;
-
-// The row of an order whose number and count stand behind `at`.
-pub fn row_at(a: &[u16], at: usize) -> [u16; 8]
-    ensures { result ≡ row_at a.now at }
+// The call that is requested, by itself; an opening is lent no work words.
+pub fn ask(request: &Request, board: &mut [u16], work: &mut [u16]) -> Answer
+    ensures { said result board.new work.new ≡ step (call_for request.now) board.old work.old }
 {
-    [
-        get(a, at, 2),
-        get(a, at, 3),
-        get(a, at, 4),
-        get(a, at, 5),
-        get(a, at, 6),
-        get(a, at, 7),
-        get(a, at, 8),
-        get(a, at, 9),
-    ]
-}
-
-// The order behind `at` of the own words is accepted or withdrawn, or the board is printed.
-pub fn ask(letter: u16, board: &mut [u16], work: &mut [u16], own: &[u16], at: usize) -> Answer
-    ensures { said result board.new work.new ≡ asked letter own.now at board.old work.old }
-{
-    let number = get(own, at, 0);
-    if letter == ACCEPT {
-        let row = row_at(own, at);
-        return accept(board, work, number, get(own, at, 1), row);
+    match request {
+        Request::Open(n) => open_board(board, *n),
+        Request::Accept(order) => accept(board, work, order),
+        Request::Withdraw(number) => withdraw(board, work, *number),
+        Request::Print => print(board, work),
     }
-    if letter == WITHDRAW {
-        return withdraw(board, work, number);
-    }
-    print(board, work)
 }

@@ -1,0 +1,21 @@
+-- Where a board's words stand. Assumes nothing.
+use Rattle.std.specs.Prelude.{List, [], ◌∷◌, ℕ, ◌+◌, ◌-◌, ◌*◌, slice_index}
+use Rattle.trial_kit.specs.declared.slots.Slot.{Slot}
+
+abbrev pub board_size : ℕ → ℕ
+board_size n = 2 + 11 * n
+
+abbrev pub slot_start : ℕ → ℕ
+slot_start s = 11 * s - 9
+
+-- word k of slot s; 0 where the board has none
+abbrev pub slot_word : List ℕ → ℕ → ℕ → ℕ
+slot_word w s k = slice_index w (slot_start s + k)
+
+-- what stands in it; eight choices
+abbrev pub row_at : List ℕ → ℕ → List ℕ
+row_at w s =
+    slot_word w s 3 ∷ slot_word w s 4 ∷ slot_word w s 5 ∷ slot_word w s 6 ∷ slot_word w s 7 ∷ slot_word w s 8 ∷ slot_word w s 9 ∷ slot_word w s 10 ∷ []
+
+abbrev pub slot_at : List ℕ → ℕ → Slot
+slot_at w s = record { label = slot_word w s 1; order = record { number = slot_word w s 0; count = slot_word w s 2; row = row_at w s } }

@@ -1,0 +1,53 @@
+// A board's words, read apart from the library: two, and eleven for each slot.
+ghost use Rattle.std.specs.Prelude.{◌≡◌, slice_index};
+ghost use Rattle.trial_kit.specs.Slots.{board_size, slot_start, slot_at};
+
+use std::array;
+use words::Order;
+
+// Words of a board of 1,024 slots and of its work words, and some more.
+pub const BOARD: usize = 11300;
+
+pub const WORK: usize = 13400;
+
+// What stands in a slot; the order of a free one has number 0.
+#[derive(Clone, Copy, Debug, PartialEq, Eq)]
+pub struct Slot {
+    pub label: u16,
+    pub order: Order,
+}
+
+// How many words a board of n slots has.
+pub fn board_size(n: u16) -> usize
+    ensures { result ≡ board_size n }
+{
+    2 + 11 * usize::from(n)
+}
+
+// Where the words of slot s begin; slots are numbered from 1.
+pub fn slot_start(s: u16) -> usize
+    ensures { result ≡ slot_start s }
+{
+    (11 * usize::from(s)).saturating_sub(9)
+}
+
+fn word_at(board: &[u16], i: usize) -> u16
+    ensures { result ≡ slice_index board.now i }
+{
+    board.get(i).copied().unwrap_or(0)
+}
+
+// A word that the board does not have is read as 0.
+pub fn slot_at(board: &[u16], s: u16) -> Slot
+    ensures { result ≡ slot_at board.now s }
+{
+    let start = slot_start(s);
+    Slot {
+        label: word_at(board, start + 1),
+        order: Order {
+            number: word_at(board, start),
+            count: word_at(board, start + 2),
+            row: array::from_fn(|j| word_at(board, start + 3 + j)),
+        },
+    }
+}
