@@ -1,137 +1,130 @@
-// The next call: what it asks, what it must answer, and which orders it must leave on the board.
-use crate::matcher::search;
-use crate::prints::{LIST, ORDER, fold, order_print, orders_print, slot_print, words};
-use trial_kit::{ACCEPT, PRINT, WITHDRAW, draw, get, put, slot_word, zero};
+// The next call: what it asks, what it must come to, and which orders it must leave on the board.
+ghost use Rattle.std.specs.Prelude.{◌<◌, IfSome, length};
 
-// The call's letter and the refusal that it must answer; how many orders the board must hold after it, and their
-// fingerprint, labels left out; and the fingerprint of all board words before it.
-#[derive(Clone, Copy)]
-pub struct Plan {
-    pub letter: u16,
-    pub refusal: u16,
-    pub held: u16,
-    pub orders: u64,
-    pub before: u64,
+use crate::boards::orders_on;
+use crate::matcher::blocked_slots;
+use board::Request;
+use std::alloc::{AllocError, Global};
+use trial_kit::{Seed, slot_at};
+use words::Order;
+
+// An order that is not accepted is blocked by these slots, or held already.
+#[derive(Drop)]
+pub enum Outcome {
+    Printed,
+    Accepted,
+    Withdrawn,
+    HeldAlready,
+    NotHeld,
+    Blocked(Vec<u16>),
 }
 
-// The slot of order v, or 0.
-fn seat(board: &[u16], n: u16, v: u16) -> u16 {
-    let mut s: u16 = 0;
-    while s < n {
-        s += 1;
-        if get(board, slot_word(s, 0), 0) == v {
-            return s;
-        }
-    }
-    0
+// The orders by number.
+#[derive(Drop)]
+pub struct Plan {
+    pub request: Request,
+    pub outcome: Outcome,
+    pub orders: Vec<Order>,
 }
 
 // A number for the next order: of one on the board, or any.
-fn number(own: &mut [u16], board: &[u16], n: u16, held: bool) -> u16 {
-    let s = draw(own, n);
-    let any = draw(own, 65535);
-    let v = get(board, slot_word(s, 11), 0);
-    if held {
-        if v != 0 {
-            return v;
-        }
-    }
-    any + 1
+fn number(seed: &mut Seed, board: &[u16], n: u16, held: bool) -> u16 {
+    let s = seed.draw(n) + 1;
+    let any = seed.draw(65535) + 1;
+    let number = slot_at(board, s).order.number;
+    if held && number != 0 { number } else { any }
 }
 
 // How far the slots of a list are apart: mostly near each other, so that slots grow scarce.
-fn gap(own: &mut [u16], n: u16) -> u16 {
-    if draw(own, 4) == 0 {
-        return draw(own, n);
+fn gap(seed: &mut Seed, n: u16) -> u16 {
+    if seed.draw(4) == 0 {
+        seed.draw(n)
+    } else {
+        seed.draw(12)
     }
-    draw(own, 12)
 }
 
-// Up to `most` and one slots, rising, the first behind `start`.
-fn spread(own: &mut [u16], n: u16, start: u16, most: u16, gap: u16) {
-    let mut s = start;
-    let mut c: u16 = 0;
-    while c <= most {
+// An order of this number with a random list: up to eight slots, rising.
+fn order(seed: &mut Seed, n: u16, number: u16) -> Order {
+    let gap = gap(seed, n);
+    let mut s = seed.draw(n);
+    let most = seed.draw(8) + 1;
+    let mut count = 0;
+    let mut row = [0; 8];
+    for j in 0..most {
         if n <= s {
-            return;
+            break;
         }
-        if 8 <= c {
-            return;
-        }
-        c += 1;
-        put(own, LIST, 0, c);
-        put(own, LIST, c, s + 1);
-        let step = draw(own, gap);
-        s = std::num::wrapping_add_u16(s, step + 1);
+        row[usize::from(j)] = s + 1;
+        count = j + 1;
+        s = s.saturating_add(seed.draw(gap) + 1);
     }
+    Order { number, count, row }
 }
 
-// The next order has number v and a random list.
-fn order(own: &mut [u16], n: u16, v: u16) {
-    zero(own, ORDER, 10);
-    put(own, ORDER, 0, v);
-    let gap = gap(own, n);
-    let start = draw(own, n);
-    let most = draw(own, 8);
-    spread(own, n, start, most, gap);
+fn place_of(orders: &[Order], number: u16) -> Option<usize>
+    ensures { IfSome result (λ place. place < length orders.now) }
+{
+    orders.iter().position(|order| order.number == number)
 }
 
-// A call that leaves the board as it is.
-fn plan_same(board: &[u16], n: u16, letter: u16, refusal: u16) -> Plan {
-    let held = get(board, 0, 1);
-    let orders = orders_print(board, n, false);
-    let before = fold(board, 0, words(n), 0);
+// The order of this number is withdrawn, if there is one.
+fn plan_withdrawal(number: u16, mut orders: Vec<Order>) -> Plan {
+    let outcome = match place_of(&orders, number) {
+        Some(place) => {
+            orders.remove(place);
+            Outcome::Withdrawn
+        }
+        None => Outcome::NotHeld,
+    };
     Plan {
-        letter,
-        refusal,
-        held,
+        request: Request::Withdraw(number),
+        outcome,
         orders,
-        before,
     }
 }
 
-// The order in slot s is withdrawn, if there is one.
-fn plan_withdrawal(board: &[u16], n: u16, s: u16) -> Plan {
-    let p = plan_same(board, n, WITHDRAW, 13);
-    if s == 0 {
-        return p;
-    }
-    Plan {
-        letter: WITHDRAW,
-        refusal: 0,
-        held: std::num::wrapping_sub_u16(p.held, 1),
-        orders: std::num::wrapping_sub_u64(p.orders, slot_print(board, s, false)),
-        before: p.before,
-    }
-}
-
-// The order is held in slot s already; or else the matcher says whether there is a way.
-fn plan_order(own: &mut [u16], board: &[u16], n: u16, v: u16, s: u16) -> Plan {
-    if s != 0 {
-        return plan_same(board, n, ACCEPT, 11);
-    }
-    let p = plan_same(board, n, ACCEPT, 12);
-    if search(own, board) == 0 {
-        return p;
-    }
-    Plan {
-        letter: ACCEPT,
-        refusal: 0,
-        held: std::num::wrapping_add_u16(p.held, 1),
-        orders: std::num::wrapping_add_u64(p.orders, order_print(own, LIST, v, 1)),
-        before: p.before,
-    }
+// The order is held already; or else the matcher says whether there is a way.
+fn plan_order(
+    alloc: Global,
+    board: &[u16],
+    order: Order,
+    mut orders: Vec<Order>,
+) -> Result<Plan, AllocError> {
+    let outcome = if place_of(&orders, order.number).is_some() {
+        Outcome::HeldAlready
+    } else if let Some(slots) = blocked_slots(alloc, board, &order)? {
+        Outcome::Blocked(slots)
+    } else {
+        orders.push(order)?;
+        orders.sort_by_key(|order| order.number)?;
+        Outcome::Accepted
+    };
+    Ok(Plan {
+        request: Request::Accept(order),
+        outcome,
+        orders,
+    })
 }
 
 // Of twenty calls three withdraw, one of them any number; one offers an order that is held; one prints.
-pub(crate) fn next_plan(own: &mut [u16], board: &[u16], n: u16) -> Plan {
-    let kind = draw(own, 20);
-    let v = number(own, board, n, kind < 3);
-    order(own, n, v);
-    let s = seat(board, n, v);
+pub fn next_plan(
+    alloc: Global,
+    seed: &mut Seed,
+    board: &[u16],
+    n: u16,
+) -> Result<Plan, AllocError> {
+    let kind = seed.draw(20);
+    let number = number(seed, board, n, kind < 3);
+    let order = order(seed, n, number);
+    let orders = orders_on(alloc, board, n)?;
     match kind {
-        0 | 1 | 3 => plan_withdrawal(board, n, s),
-        4 => plan_same(board, n, PRINT, 0),
-        _ => plan_order(own, board, n, v, s),
+        0 | 1 | 3 => Ok(plan_withdrawal(number, orders)),
+        4 => Ok(Plan {
+            request: Request::Print,
+            outcome: Outcome::Printed,
+            orders,
+        }),
+        _ => plan_order(alloc, board, order, orders),
     }
 }

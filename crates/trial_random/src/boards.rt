@@ -1,0 +1,30 @@
+// What is on a board.
+use std::alloc::{AllocError, Global};
+use trial_kit::slot_at;
+use words::Order;
+
+// The orders on a board of n slots, in whatever slots, by number.
+pub fn orders_on(alloc: Global, board: &[u16], n: u16) -> Result<Vec<Order>, AllocError> {
+    let mut orders: Vec<Order> = (1..=n)
+        .map(|s| slot_at(board, s).order)
+        .filter(|order| order.number != 0)
+        .collect(alloc)?;
+    orders.sort_by_key(|order| order.number)?;
+    Ok(orders)
+}
+
+// Every slot is free, or on the list of the order that it has.
+pub fn all_sit(board: &[u16], n: u16) -> bool {
+    (1..=n).all(|s| {
+        let order = slot_at(board, s).order;
+        order.number == 0 || order.row.contains(&s)
+    })
+}
+
+// Every order has label 1.
+pub fn all_new(board: &[u16], n: u16) -> bool {
+    (1..=n).all(|s| {
+        let slot = slot_at(board, s);
+        slot.order.number == 0 || slot.label == 1
+    })
+}
