@@ -19,16 +19,17 @@
 mod bench;
 mod script;
 
+use bench::Bench;
 use std::io;
-use trial_kit::{ALL_TRIED, ALL_WRONG, read_all, say, say_tally};
+use std::io::Read;
 
 fn main(rt: HostRuntime) -> io::Result<()> {
-    let mut text = [0u8; 65536];
-    let mut board = [0u16; 11300];
-    let mut work = [0u16; 13400];
-    let mut own = [0u16; 11400];
-    let n = read_all(&rt, &mut text);
-    script::run(&rt, &text[..n], &mut board, &mut work, &mut own)?;
-    say(&rt, b"all")?;
-    say_tally(&rt, &own, ALL_TRIED, ALL_WRONG)
+    let mut text = Vec::new(rt.alloc());
+    rt.reader().read_to_end(&mut text)?;
+    let mut bench = Bench::new();
+    for line in text.split(|byte| *byte == b'\n') {
+        script::perform(&rt, rt.alloc(), line, &mut bench)?;
+    }
+    let all = bench.tally.all;
+    println!(rt; "all: {all}")
 }

@@ -1,126 +1,63 @@
 // The script's lines.
-use crate::bench::{LENT, NUMBERS, WANT, do_blocked, do_call, do_check, do_open};
-use std::io;
-use trial_kit::{
-    CASE, copy, count, fill_marks, get, line_end, note, numbers, put, say, slot_word, tell, zero,
-};
+use crate::bench::Bench;
+use board::Request;
+use std::alloc::Global;
+use std::{array, io};
+use trial_kit::numbers;
+use words::Order;
 
-// All words get their marks, in the expected board too.
-fn fresh(board: &mut [u16], own: &mut [u16]) {
-    fill_marks(board);
-    copy(board, 0, own, WANT, 11300);
-    let b = get(own, NUMBERS, 0);
-    let w = get(own, NUMBERS, 1);
-    put(own, LENT, 0, b);
-    put(own, LENT, 1, w);
+// Number i of a line; one that the line does not have is 0.
+pub fn number(numbers: &[u16], i: usize) -> u16 {
+    numbers.get(i).copied().unwrap_or(0)
 }
 
-// The numbers of the line after its first, `count` of them with it, go into the words from the index that the first names.
-fn given(count: u16, board: &mut [u16], own: &mut [u16]) {
-    if count == 0 {
-        return;
-    }
-    let i = get(own, NUMBERS, 0) as usize;
-    copy(own, NUMBERS + 1, board, i, count - 1);
-    copy(board, i, own, WANT + i, count - 1);
-}
-
-fn opened(own: &mut [u16]) {
-    let n = get(own, NUMBERS, 0);
-    if 1024 < n {
-        return;
-    }
-    put(own, WANT, 0, n);
-    zero(own, WANT + 1, 11 * n + 1);
-}
-
-fn slot(own: &mut [u16]) {
-    let at = std::num::wrapping_add_usize(WANT, slot_word(get(own, NUMBERS, 0), 0));
-    let mut k: u16 = 0;
-    while k < 11 {
-        let v = get(own, NUMBERS, 1 + k);
-        put(own, at, k, v);
-        k += 1;
+fn order(asked: &[u16]) -> Order {
+    Order {
+        number: number(asked, 0),
+        count: number(asked, 1),
+        row: array::from_fn(|j| number(asked, 2 + j)),
     }
 }
 
-// What the lines before a call say of the board. A line that is not understood is wrong.
-fn arrange(
-    rt: &impl Print,
-    letter: u8,
-    most: u16,
-    board: &mut [u16],
-    own: &mut [u16],
-) -> io::Result<()> {
-    match letter {
-        b'f' => fresh(board, own),
-        b'g' => given(most, board, own),
-        b'z' => opened(own),
-        b's' => slot(own),
-        b'h' => {
-            let m = get(own, NUMBERS, 0);
-            put(own, WANT, 1, m);
-        }
-        0 | b'#' => {}
-        _ => note(rt, own, b'?', false)?,
-    }
-    Ok(())
-}
-
+// What the letter says, with these numbers. A line that is not understood is wrong.
 fn command(
     rt: &impl Print,
     letter: u8,
-    most: u16,
-    board: &mut [u16],
-    work: &mut [u16],
-    own: &mut [u16],
+    asked: &[u16],
+    expected: &[u16],
+    bench: &mut Bench,
 ) -> io::Result<()> {
     match letter {
-        b'o' => do_open(rt, board, own),
-        b'a' | b'w' | b'p' => do_call(rt, letter as u16, board, work, own),
-        b'c' => do_check(rt, board, own),
-        b'b' => do_blocked(rt, work, own),
-        _ => arrange(rt, letter, most, board, own),
+        b'f' => bench.fresh(asked),
+        b'g' => bench.given(asked),
+        b'z' => bench.zero(number(asked, 0)),
+        b's' => bench.slot(asked),
+        b'h' => bench.held(number(asked, 0)),
+        b'o' => bench.open(rt, number(asked, 0), expected)?,
+        b'a' => bench.call(rt, &Request::Accept(order(asked)), expected)?,
+        b'w' => bench.call(rt, &Request::Withdraw(number(asked, 0)), expected)?,
+        b'p' => bench.call(rt, &Request::Print, expected)?,
+        b'c' => bench.check(rt, number(expected, 0))?,
+        b'b' => bench.list(rt, number(asked, 0), number(expected, 0))?,
+        b'#' => {}
+        _ => bench.tally.check(rt, '?', false)?,
     }
+    Ok(())
 }
 
 // One line.
-fn perform(
-    rt: &impl Print,
-    line: &[u8],
-    board: &mut [u16],
-    work: &mut [u16],
-    own: &mut [u16],
-) -> io::Result<()> {
-    count(own, CASE);
-    if line.len() == 0 {
+pub fn perform(rt: &impl Print, alloc: Global, line: &[u8], bench: &mut Bench) -> io::Result<()> {
+    bench.tally.next_case();
+    let Some((letter, rest)) = line.split_first() else {
         return Ok(());
+    };
+    if *letter == b'=' {
+        rt.write_all(rest)?;
+        return bench.tally.tell(rt);
     }
-    let letter = line[0];
-    if letter == b'=' {
-        say(rt, &line[1..])?;
-        return tell(rt, own);
-    }
-    zero(own, NUMBERS, 64);
-    let c = numbers(line, own, NUMBERS);
-    command(rt, letter, c, board, work, own)
-}
-
-pub(crate) fn run(
-    rt: &impl Print,
-    text: &[u8],
-    board: &mut [u16],
-    work: &mut [u16],
-    own: &mut [u16],
-) -> io::Result<()> {
-    let mut at: usize = 0;
-    while at < text.len() {
-        let e = line_end(text, at);
-        if text.len() <= e {
-            return Ok(());
-        }
-        perform(rt, &text[at..e], board, work, own)?;
-        at = e + 1;
-    }
-    Ok(())
+    let arrow = rest.iter().position(|byte| *byte == b'>');
+    let (asked, expected) = rest.split_at(arrow.unwrap_or(rest.len()));
+    let asked = numbers(alloc, asked)?;
+    let expected = numbers(alloc, expected)?;
+    command(rt, *letter, &asked, &expected, bench)
 }
