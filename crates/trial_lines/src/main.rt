@@ -5,11 +5,11 @@ mod runs;
 mod writes;
 
 use std::io;
-use trial_kit::read_all;
+use std::io::Read;
 
 fn main(rt: HostRuntime) -> io::Result<()> {
-    let mut text = [0u8; 8192];
-    let n = read_all(&rt, &mut text);
+    let mut input = Vec::new(rt.alloc());
+    rt.reader().read_to_end(&mut input)?;
     writes::run(&rt)?;
-    runs::run_all(&rt, &text[..n])
+    runs::run_all(&rt, &input)
 }

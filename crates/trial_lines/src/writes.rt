@@ -1,12 +1,13 @@
 // Orders written and read back.
-ghost use Rattle.std.specs.Prelude.{◌≤◌, ◌<◌};
+ghost use Rattle.std.specs.Prelude.{◌≡◌, ◌≤◌, ◌<◌, ◌+◌, ◌*◌, length};
 
-use answers::refusal_number;
-use reading::{LineOrder, answer_letter};
+use answers::Refusal;
+use reading::{Kind, Line};
 use round_trip::{RoundTrip, read_and_write, write_and_read};
 use std::io;
-use trial_kit::{CASE, count, note, same, say, tell};
-use writing::{Wrote, write_order};
+use trial_kit::Tally;
+use words::Order;
+use writing::write_order;
 
 // Counts of slots times numbers times lists.
 const CASES: u16 = 8 * 10 * 10;
@@ -21,202 +22,119 @@ const FRAME: usize = 8;
 
 const COLUMN: usize = 6;
 
-// Above every count of bytes: a refusal's number is added to it.
-const REFUSED: usize = 1000;
-
-const SHORT: usize = REFUSED + 4;
-
-const BAD_COUNT: usize = REFUSED + 8;
-
 const NUMBERS: [u16; 10] = [1, 9, 10, 99, 100, 999, 1000, 9999, 10000, 65535];
 
 // Times this, the case's number is scattered over 16 bits.
 const SPREAD: u32 = 40503;
 
-// Slot j of a list of c slots: the lowest, the highest, or one of 128 by x; 0 behind the last.
-fn slot(list: u16, c: u16, j: u16, x: u16) -> u16
-    requires { (c ≤ 8) × (j ≤ 7) }
+// Slot j of a list of so many slots: the lowest, the highest, or one of 128 by x.
+fn slot(list: u16, count: u16, j: u16, x: u16) -> u16
+    requires list_size { count ≤ 8 }
+    requires within { j < count }
 {
-    if c <= j {
-        return 0;
+    match list {
+        0 => j + 1,
+        1 => 1025 - count + j,
+        _ => 128 * j + 1 + x / (j + 1) % 128,
     }
-    if list == 0 {
-        return j + 1;
-    }
-    if list == 1 {
-        return 1025 - c + j;
-    }
-    128 * j + 1 + x / (j + 1) % 128
 }
 
 // Case t: each count with each number, and lists of the lowest slots, of the highest, and eight that are scattered.
-fn order(t: u16) -> LineOrder
+fn order(t: u16) -> Order
     ensures { result.count ≤ 8 }
 {
-    let c = t % 8 + 1;
-    let k = t / 80;
-    let i = (t / 8 % 10) as usize;
-    let x = ((t as u32) * SPREAD % 65536) as u16;
-    let row = [
-        slot(k, c, 0, x),
-        slot(k, c, 1, x),
-        slot(k, c, 2, x),
-        slot(k, c, 3, x),
-        slot(k, c, 4, x),
-        slot(k, c, 5, x),
-        slot(k, c, 6, x),
-        slot(k, c, 7, x),
-    ];
-    LineOrder {
-        number: NUMBERS[i],
-        count: c,
+    let count = t % 8 + 1;
+    let x = (u32::from(t) * SPREAD % 65536) as u16;
+    let mut row = [0; 8];
+    for j in 0..count {
+        row[usize::from(j)] = slot(t / 80, count, j, x);
+    }
+    Order {
+        number: NUMBERS[usize::from(t / 8 % 10)],
+        count,
         row,
     }
 }
 
-// The bytes that were written, or the refusal.
-fn outcome(w: Wrote) -> usize {
-    match w {
-        Wrote::Written(n) => n,
-        Wrote::Refused(r) => REFUSED + (refusal_number(r) as usize),
-    }
-}
-
-fn same_bytes(a: &[u8; ROOM], b: &[u8; ROOM]) -> bool {
-    let mut i: usize = 0;
-    while i < ROOM {
-        if a[i] != b[i] {
-            return false;
-        }
-        i += 1;
-    }
-    true
-}
-
-// The columns of the order's line: its number, its slots, and nothing.
-fn columns_are(columns: [u16; 10], o: LineOrder) -> bool {
-    if columns[0] != o.number {
-        return false;
-    }
-    if columns[9] != 0 {
-        return false;
-    }
-    let row = o.row;
-    same(&columns, 1, &row, 0, 8)
-}
-
-// As many bytes as the order's count says were written, and what was read is its A line.
-fn trip_is(r: RoundTrip, o: LineOrder) -> bool
-    requires { o.count ≤ 8 }
+// Bytes of the order's line with its feed.
+fn line_size(order: &Order) -> usize
+    ensures { result ≡ 8 + 6 * order.now.count }
 {
-    let wrote = r.wrote;
-    if outcome(wrote) != FRAME + COLUMN * (o.count as usize) {
-        return false;
+    FRAME + COLUMN * usize::from(order.count)
+}
+
+// As many bytes as the order's count says are written, and what is read is its A line: its number, its slots, and nothing.
+fn trip_of(order: &Order) -> RoundTrip {
+    let mut columns = [0; 10];
+    columns[0] = order.number;
+    columns[1..9].copy_from_slice(&order.row);
+    RoundTrip {
+        line: Ok(Line {
+            kind: Kind::Accept,
+            count: usize::from(order.count) + 1,
+            columns,
+        }),
+        wrote: Ok(line_size(order)),
     }
-    let line = r.line;
-    let kind = line.kind;
-    if answer_letter(kind) != b'A' {
-        return false;
-    }
-    if line.count != (o.count as usize) + 1 {
-        return false;
-    }
-    let columns = line.columns;
-    columns_are(columns, o)
 }
 
 // The line in the buffer is read and written again.
-fn again(out: [u8; ROOM], o: LineOrder) -> bool
-    requires { o.count ≤ 8 }
-{
+fn is_written_again(out: &[u8; ROOM], line: &[u8], order: &Order) -> bool {
     let mut second = [FILL; ROOM];
-    let n = FRAME + COLUMN * (o.count as usize);
-    let r = read_and_write(&out[0..n - 1], &mut second);
-    if !trip_is(r, o) {
-        return false;
-    }
-    same_bytes(&out, &second)
+    read_and_write(line, &mut second) == trip_of(order) && second == *out
 }
 
 // And not where there is one byte too few for it: nothing is written then.
-fn not_again(out: [u8; ROOM], o: LineOrder) -> bool
-    requires { o.count ≤ 8 }
+fn is_short_again(line: &[u8]) -> bool
+    requires { length line.now ≤ 64 }
 {
     let mut second = [FILL; ROOM];
-    let all = [FILL; ROOM];
-    let n = FRAME + COLUMN * (o.count as usize);
-    let r = read_and_write(&out[0..n - 1], &mut second[0..n - 1]);
-    let wrote = r.wrote;
-    if outcome(wrote) != SHORT {
-        return false;
-    }
-    same_bytes(&second, &all)
+    let trip = read_and_write(line, &mut second[..line.len()]);
+    trip.wrote == Err(Refusal::Short) && second == [FILL; ROOM]
 }
 
 // The order is written and read back, and then its line. Room to spare stays as it was.
-fn written(o: LineOrder) -> bool
-    requires { o.count ≤ 8 }
+fn is_written(order: &Order) -> bool
+    requires { order.now.count ≤ 8 }
 {
     let mut out = [FILL; ROOM];
-    let row = o.row;
-    let r = write_and_read(&mut out, o.number, o.count, row);
-    if !trip_is(r, o) {
-        return false;
-    }
-    let n = FRAME + COLUMN * (o.count as usize);
-    if out[n - 1] != b'\n' {
-        return false;
-    }
-    if out[n] != FILL {
-        return false;
-    }
-    if !again(out, o) {
-        return false;
-    }
-    not_again(out, o)
+    let trip = write_and_read(&mut out, order);
+    let size = line_size(order);
+    let line = &out[..size - 1];
+    trip == trip_of(order)
+        && out[size - 1] == b'\n'
+        && out[size..].iter().all(|byte| *byte == FILL)
+        && is_written_again(&out, line, order)
+        && is_short_again(line)
 }
 
-// The writer refuses the order, with this count and so many bytes, and writes nothing.
-fn refused(o: LineOrder, count: u16, room: usize, expected: usize) -> bool
+// The writer refuses the order with so many bytes of room, and writes nothing.
+fn is_refused(order: &Order, room: usize, why: Refusal) -> bool
     requires { room ≤ 64 }
 {
     let mut out = [FILL; ROOM];
-    let all = [FILL; ROOM];
-    let row = o.row;
-    let w = write_order(&mut out[0..room], o.number, count, row);
-    if outcome(w) != expected {
-        return false;
-    }
-    same_bytes(&out, &all)
+    write_order(&mut out[..room], order) == Err(why) && out == [FILL; ROOM]
 }
 
 // One byte too few, no slot and nine slots are refused.
-fn refusals(o: LineOrder) -> bool
-    requires { o.count ≤ 8 }
+fn is_refused_rightly(order: &Order) -> bool
+    requires { order.now.count ≤ 8 }
 {
-    if !refused(o, o.count, FRAME - 1 + COLUMN * (o.count as usize), SHORT) {
-        return false;
-    }
-    if !refused(o, 0, ROOM, BAD_COUNT) {
-        return false;
-    }
-    refused(o, 9, ROOM, BAD_COUNT)
+    let none = Order { count: 0, ..*order };
+    let nine = Order { count: 9, ..*order };
+    is_refused(order, line_size(order) - 1, Refusal::Short)
+        && is_refused(&none, ROOM, Refusal::BadCount)
+        && is_refused(&nine, ROOM, Refusal::BadCount)
 }
 
-fn one_order(rt: &impl Print, own: &mut [u16], t: u16) -> io::Result<()> {
-    count(own, CASE);
-    let o = order(t);
-    note(rt, own, b'w', written(o))?;
-    note(rt, own, b'n', refusals(o))
-}
-
-pub(crate) fn run(rt: &impl Print) -> io::Result<()> {
-    let mut own = [0u16; 16];
-    let mut t: u16 = 0;
-    while t < CASES {
-        one_order(rt, &mut own, t)?;
-        t += 1;
+pub fn run(rt: &impl Print) -> io::Result<()> {
+    let mut tally = Tally::default();
+    for t in 0..CASES {
+        tally.next_case();
+        let order = order(t);
+        tally.check(rt, 'w', is_written(&order))?;
+        tally.check(rt, 'n', is_refused_rightly(&order))?;
     }
-    say(rt, b"orders written and read back")?;
-    tell(rt, &mut own)
+    print!(rt; "orders written and read back")?;
+    tally.tell(rt)
 }
