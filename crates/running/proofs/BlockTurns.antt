@@ -18,7 +18,6 @@ use Rattle.framing.specs.Ends.{line_end}
 use Rattle.writing.proofs.Texts.{sets-start, sets-next}
 use Rattle.answers.specs.declared.Tally.{Tally}
 use Rattle.running.specs.declared.Block.{Block}
-use Rattle.running.specs.declared.Placed.{Placed}
 use Rattle.answers.specs.Values.{state_of}
 use Rattle.running.specs.BlockLoop.{Answered, Left, todo, Turning}
 use Rattle.running.specs.BlockPromise.{Leaves}
@@ -38,11 +37,11 @@ left-joined p p' q i o out₀ out out₁ at n written end e e₁ e₂ h =
     }
 
 -- the end: what is left to do comes to the portion z, and it is done
-leave : (p z : Portion) (input : List ℕ) (ended : Bool) (s₀ : State) (out₀ out out₁ board₁ work₁ : List ℕ) (at written : ℕ) (r : Block)
+leave : (p z : Portion) (input : List ℕ) (ended : Bool) (s₀ : State) (out₀ out out₁ board₁ work₁ : List ℕ) (at written : ℕ) (r : Block) (t' : Tally)
     → Left p (block (length out₀) ended s₀ input) out₀ out at written → p ≡ z
-    → r.consumed ≡ at + z.used → r.written ≡ written + length z.text → state_of board₁ work₁ r.tally ≡ z.state → out₁ ≡ sets out written z.text
-    → r.consumed ≤ length input → r.written ≤ length out₀ → Leaves input ended s₀ out₀ r board₁ work₁ out₁
-leave p z input ended s₀ out₀ out out₁ board₁ work₁ at written r h e e₁ e₂ e₃ e₄ i f =
+    → r.consumed ≡ at + z.used → r.written ≡ written + length z.text → state_of board₁ work₁ t' ≡ z.state → out₁ ≡ sets out written z.text
+    → r.consumed ≤ length input → r.written ≤ length out₀ → Leaves input ended s₀ out₀ r t' board₁ work₁ out₁
+leave p z input ended s₀ out₀ out out₁ board₁ work₁ at written r t' h e e₁ e₂ e₃ e₄ i f =
     let q = block (length out₀) ended s₀ input in
     let u : p.used ≡ z.used = ap (λ (x : Portion). x.used) e in
     let t : p.text ≡ z.text = ap (λ (x : Portion). x.text) e in
@@ -50,7 +49,7 @@ leave p z input ended s₀ out₀ out out₁ board₁ work₁ at written r h e e
     let used : r.consumed ≡ q.used = omega (arith, h.used) in
     let left : out₁ ≡ q.text ++ drop (length q.text) out₀ = e₄ ∙ rw t at h.stored ∙ sets-start out₀ q.text (omega arith) in
     let wrote : take r.written out₁ ≡ q.text = rw (long, left) (take-append_seam q.text _) in
-    let same : state_of board₁ work₁ r.tally ≡ q.state = e₃ ∙ ap (λ (x : Portion). x.state) (sym e) ∙ h.state in
+    let same : state_of board₁ work₁ t' ≡ q.state = e₃ ∙ ap (λ (x : Portion). x.state) (sym e) ∙ h.state in
     let ran : run s₀ q.lines ≡ record { text = q.text; state = q.state } = block_run (length out₀) ended s₀ input in
     let board : (run s₀ q.lines).state.board ≡ board₁ = ap (λ (o : Out). o.state.board) ran ∙ ap (λ (s : State). s.board) (sym same) in
     record {
@@ -90,62 +89,62 @@ start input ended out board work t e d =
 module _ {input : List ℕ} {ended : Bool} {s₀ : State} {out₀ board work : List ℕ} {t : Tally} {out : List ℕ} {at e written : ℕ}
     (h : Turning input ended s₀ out₀ board work t out at e written) where
   -- a line with room for its answer
-  pub turn : {out₁ board₁ work₁ : List ℕ} {r : Placed} {e₁ : ℕ} → e < length input → reply_room ≤ length out - written
-      → Answered (handle (state_of board work t) (framed (take (e - at) (drop at input)))) out written r board₁ work₁ out₁ → e₁ ≡ line_end input (e + 1)
-      → Turning input ended s₀ out₀ board₁ work₁ r.tally out₁ (e + 1) e₁ r.end
-  turn {out₁} {board₁} {work₁} {r} {e₁} lt room x d₁ =
+  pub turn : {out₁ board₁ work₁ : List ℕ} {end e₁ : ℕ} {t₁ : Tally} → e < length input → reply_room ≤ length out - written
+      → Answered (handle (state_of board work t) (framed (take (e - at) (drop at input)))) out written end t₁ board₁ work₁ out₁ → e₁ ≡ line_end input (e + 1)
+      → Turning input ended s₀ out₀ board₁ work₁ t₁ out₁ (e + 1) e₁ end
+  turn {out₁} {board₁} {work₁} {end} {e₁} {t₁} lt room x d₁ =
       let d = h.line in
       let l = take (e - at) (drop at input) in
       let o = handle (state_of board work t) (framed l) in
       let place : at + (length l + 1) ≡ e + 1 = omega (arith, line-length input at e d, d.after) in
-      let less : length out₀ - written - length o.text ≡ length out₀ - r.end = omega (arith, x.end) in
-      let one : todo input ended (state_of board work t) out₀ at written ≡ joined (length l + 1) (framed l) o (todo input ended (state_of board₁ work₁ r.tally) out₀ (e + 1) r.end) =
+      let less : length out₀ - written - length o.text ≡ length out₀ - end = omega (arith, x.end) in
+      let one : todo input ended (state_of board work t) out₀ at written ≡ joined (length l + 1) (framed l) o (todo input ended (state_of board₁ work₁ t₁) out₀ (e + 1) end) =
       ap (block (length out₀ - written) ended (state_of board work t)) (line-split input at e d lt)
       ∙ block-line (length out₀ - written) ended (state_of board work t) l (drop (e + 1) input) (line_clean input at e d) (omega (arith, h.same))
       ∙ ap (λ (k : ℕ). joined (length l + 1) (framed l) o (block k ended o.state (drop (e + 1) input))) less
-      ∙ ap (λ (s₁ : State). joined (length l + 1) (framed l) o (block (length out₀ - r.end) ended s₁ (drop (e + 1) input))) (sym x.state) in
+      ∙ ap (λ (s₁ : State). joined (length l + 1) (framed l) o (block (length out₀ - end) ended s₁ (drop (e + 1) input))) (sym x.state) in
       record {
         line = line-ends input (e + 1) e₁ (omega arith) d₁;
         fits = omega (arith, x.end, h.same, handle-fits (state_of board work t) (framed l));
         same = ap length x.output ∙ length-sets out written o.text ∙ h.same;
-        left = rw place at (left-joined _ _ _ (framed l) o out₀ out out₁ at (length l + 1) written r.end one x.end x.output h.left);
+        left = rw place at (left-joined _ _ _ (framed l) o out₀ out out₁ at (length l + 1) written end one x.end x.output h.left);
       }
 
   -- where the function returns: nothing more is written
-  stays : {r : Block} (consumed n : ℕ) → r ≡ record { consumed = consumed; written = written; tally = t } → todo input ended (state_of board work t) out₀ at written ≡ record { used = n; lines = []; text = []; state = state_of board work t } → consumed ≡ at + n → consumed ≤ length input
-      → Leaves input ended s₀ out₀ r board work out
+  stays : {r : Block} (consumed n : ℕ) → r ≡ record { consumed = consumed; written = written } → todo input ended (state_of board work t) out₀ at written ≡ record { used = n; lines = []; text = []; state = state_of board work t } → consumed ≡ at + n → consumed ≤ length input
+      → Leaves input ended s₀ out₀ r t board work out
   stays consumed n q z u i =
-      subst (λ (r : Block). Leaves input ended s₀ out₀ r board work out) (sym q)
-      (leave _ _ input ended s₀ out₀ out out board work at written _ h.left z u (sym (add-zero written)) refl refl i h.fits)
+      subst (λ (r : Block). Leaves input ended s₀ out₀ r t board work out) (sym q)
+      (leave _ _ input ended s₀ out₀ out out board work at written _ t h.left z u (sym (add-zero written)) refl refl i h.fits)
 
-  here : {r : Block} → r ≡ record { consumed = at; written = written; tally = t } → todo input ended (state_of board work t) out₀ at written ≡ nothing (state_of board work t) → Leaves input ended s₀ out₀ r board work out
+  here : {r : Block} → r ≡ record { consumed = at; written = written } → todo input ended (state_of board work t) out₀ at written ≡ nothing (state_of board work t) → Leaves input ended s₀ out₀ r t board work out
   here q z = stays at 0 q z (sym (add-zero at)) (omega (arith, h.line.after, h.line.within))
 
   at_rest : length input ≤ e → todo input ended (state_of board work t) out₀ at written ≡ ending (length out₀ - written) ended (state_of board work t) (drop at input)
   at_rest over = block-rest (length out₀ - written) ended (state_of board work t) (drop at input) (rest-clean input at e h.line over)
 
-  pub no-room-left : {r : Block} → r ≡ record { consumed = at; written = written; tally = t } → e < length input → length out - written < reply_room → Leaves input ended s₀ out₀ r board work out
+  pub no-room-left : {r : Block} → r ≡ record { consumed = at; written = written } → e < length input → length out - written < reply_room → Leaves input ended s₀ out₀ r t board work out
   no-room-left q lt room =
       here q (ap (block (length out₀ - written) ended (state_of board work t)) (line-split input at e h.line lt)
       ∙ block-full (length out₀ - written) ended (state_of board work t) (take (e - at) (drop at input)) (drop (e + 1) input) (line_clean input at e h.line) (omega (arith, h.same)))
 
-  pub all_done : {r : Block} → r ≡ record { consumed = at; written = written; tally = t } → length input ≤ e → ended ≡ true → e - at ≡ 0 → Leaves input ended s₀ out₀ r board work out
+  pub all_done : {r : Block} → r ≡ record { consumed = at; written = written } → length input ≤ e → ended ≡ true → e - at ≡ 0 → Leaves input ended s₀ out₀ r t board work out
   all_done q over y z = here q (at_rest over ∙ rw y (none_left _ _ (drop at input) (rest-length input at e h.line over ∙ z)))
 
-  pub no-room-last : {r : Block} → r ≡ record { consumed = at; written = written; tally = t } → length input ≤ e → ended ≡ true → length out - written < reply_room → Leaves input ended s₀ out₀ r board work out
+  pub no-room-last : {r : Block} → r ≡ record { consumed = at; written = written } → length input ≤ e → ended ≡ true → length out - written < reply_room → Leaves input ended s₀ out₀ r t board work out
   no-room-last q over y z = here q (at_rest over ∙ rw y (no_room _ _ (drop at input) (omega (arith, h.same))))
 
-  pub waits : {r : Block} {consumed : ℕ} → r ≡ record { consumed = consumed; written = written; tally = t } → length input ≤ e → ended ≡ false → consumed ≡ at + (e - at - waiting)
-      → Leaves input ended s₀ out₀ r board work out
+  pub waits : {r : Block} {consumed : ℕ} → r ≡ record { consumed = consumed; written = written } → length input ≤ e → ended ≡ false → consumed ≡ at + (e - at - waiting)
+      → Leaves input ended s₀ out₀ r t board work out
   waits {consumed = consumed} q over y u =
       stays consumed (e - at - waiting) q (at_rest over ∙ rw (y, rest-length input at e h.line over)) u (omega (arith, h.line.after, h.line.within))
 
-  pub refuses : {r : Block} {out₁ : List ℕ} {p : Placed} → r ≡ record { consumed = e; written = p.end; tally = p.tally } → length input ≤ e → ended ≡ true → reply_room ≤ length out - written → (e - at ≡ 0 → ⊥)
-      → Answered (handle (state_of board work t) spoilt) out written p board work out₁ → Leaves input ended s₀ out₀ r board work out₁
-  refuses {r} {out₁} q over y room z x =
+  pub refuses : {r : Block} {out₁ : List ℕ} {end : ℕ} {t' : Tally} → r ≡ record { consumed = e; written = end } → length input ≤ e → ended ≡ true → reply_room ≤ length out - written → (e - at ≡ 0 → ⊥)
+      → Answered (handle (state_of board work t) spoilt) out written end t' board work out₁ → Leaves input ended s₀ out₀ r t' board work out₁
+  refuses {r} {out₁} {end} {t'} q over y room z x =
       let long = rest-length input at e h.line over in
       let one : todo input ended (state_of board work t) out₀ at written ≡ refused_rest (e - at) (state_of board work t) =
       at_rest over ∙ rw (y, ← long) (one_left _ _ (drop at input) (omega (arith, h.same)) (λ k. z (sym long ∙ k))) in
-      subst (λ (r : Block). Leaves input ended s₀ out₀ r board work out₁) (sym q)
-      (leave _ _ input ended s₀ out₀ out out₁ board work at written _ h.left one (omega (arith, h.line.after)) x.end x.state x.output h.line.within
+      subst (λ (r : Block). Leaves input ended s₀ out₀ r t' board work out₁) (sym q)
+      (leave _ _ input ended s₀ out₀ out out₁ board work at written _ t' h.left one (omega (arith, h.line.after)) x.end x.state x.output h.line.within
       (omega (arith, x.end, h.same, handle-fits (state_of board work t) spoilt)))

@@ -7,7 +7,13 @@ use lib.ListN.{length, get_or, take, drop, length-take, length-drop}
 use lib.Seq.{split_at, get_or-drop, get_or-take, drop-drop}
 use Rattle.rules.specs.Text.{line_feed}
 use Rattle.rules.proofs.Cutting.{Clean}
-use Rattle.framing.specs.Ends.{line_end}
+use Rattle.std.proofs.Common.{Option, Some, None, false, refl}
+use Rattle.std.specs.Option.{is_some}
+use mathlib.Core.Bool.{false≢true}
+use Rattle.std.proofs.lemmas.Bool.{ltb-true, ltb-false}
+use Rattle.rules.proofs.Cutting.{either}
+use lib.Dec.{ltb}
+use Rattle.framing.specs.Ends.{line_end, feed_from}
 use Rattle.framing.proofs.EndLaws.{end-within, end-found, end-first}
 use Rattle.running.specs.BlockLoop.{LineEnd}
 
@@ -45,3 +51,21 @@ module _ (s : List ℕ) (from e : ℕ) (h : LineEnd s from e) where
 
   pub rest-length : length s ≤ e → length (drop from s) ≡ e - from
   rest-length p = omega (arith, length-drop from s, h.within)
+
+pub none_of : (o : Option ℕ) → is_some o ≡ false → o ≡ None
+none_of None h = refl
+none_of (Some e) h = absurd (false≢true (sym h))
+
+-- what the look for a line feed answers
+module _ (s : List ℕ) (from : ℕ) where
+  pub some-end : (e : ℕ) → feed_from s from ≡ Some e → (e ≡ line_end s from) × (e < length s)
+  some-end e h =
+      either (ltb (line_end s from) (length s))
+      (λ z. let k = rw z at h in let is : e ≡ line_end s from = cc in (is, omega (arith, is, ltb-true _ _ z)))
+      (λ n. absurd (let k = rw n at h in cc))
+
+  pub none-end : feed_from s from ≡ None → from ≤ length s → length s ≡ line_end s from
+  none-end h within =
+      either (ltb (line_end s from) (length s))
+      (λ z. absurd (let k = rw z at h in cc))
+      (λ n. omega (arith, ltb-false _ _ n, end-within s from within))

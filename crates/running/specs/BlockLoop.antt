@@ -8,13 +8,12 @@ use Rattle.rules.specs.Chunks.{Portion, block}
 use Rattle.answers.specs.declared.Tally.{Tally}
 use Rattle.answers.specs.Values.{state_of}
 use Rattle.running.specs.declared.Block.{Block}
-use Rattle.running.specs.declared.Placed.{Placed}
 use Rattle.running.specs.BlockPromise.{Leaves}
 
 -- what the code left of a line's answer, at position `at` of the room `out`, against what the definitions print and leave
-pub record Answered (o : Out) (out : List ℕ) (at : ℕ) (r : Placed) (board' work' out' : List ℕ) : Type 0 where
-  pub end : r.end ≡ at + length o.text
-  pub state : state_of board' work' r.tally ≡ o.state
+pub record Answered (o : Out) (out : List ℕ) (at end' : ℕ) (t' : Tally) (board' work' out' : List ℕ) : Type 0 where
+  pub end : end' ≡ at + length o.text
+  pub state : state_of board' work' t' ≡ o.state
   pub output : out' ≡ sets out at o.text
 
 -- r is the first index of s from `from` on that holds a line feed, or s's length
@@ -42,6 +41,6 @@ pub record Turning (input : List ℕ) (ended : Bool) (s₀ : State) (out₀ boar
   pub left : Left (todo input ended (state_of board work t) out₀ at written) (block (length out₀) ended s₀ input) out₀ out at written
 
 -- No whole line is left: whatever the block began with, r is what it answers.
-abbrev pub Finishes : Bool → ℕ → ℕ → ℕ → Tally → List ℕ → List ℕ → List ℕ → Block → List ℕ → Type 0
-Finishes ended at e written t board work out r out' =
-    (input : List ℕ) (s₀ : State) (out₀ : List ℕ) → Turning input ended s₀ out₀ board work t out at e written → length input ≤ e → Leaves input ended s₀ out₀ r board work out'
+abbrev pub Finishes : Bool → ℕ → ℕ → ℕ → Tally → List ℕ → List ℕ → List ℕ → Block → Tally → List ℕ → Type 0
+Finishes ended at e written t board work out r t' out' =
+    (input : List ℕ) (s₀ : State) (out₀ : List ℕ) → Turning input ended s₀ out₀ board work t out at e written → length input ≤ e → Leaves input ended s₀ out₀ r t' board work out'
