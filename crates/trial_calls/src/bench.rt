@@ -43,7 +43,7 @@ fn ask_lent(request: &Request, lent: Lent, board: &mut [u16], work: &mut [u16]) 
     ask(request, &mut board[..board_lent], &mut work[..work_lent])
 }
 
-// What is wrong with the answer, by a letter: the refusal or the count.
+// What is wrong with the answer, by a letter: the refusal or the count. The script has their numbers, as the table of refusals.
 fn answer_fault(answer: Answer, expected: &[u16]) -> Option<char> {
     if refusal_of(answer) != number(expected, 0) {
         Some('r')
@@ -111,9 +111,8 @@ impl Bench {
     }
 
     pub fn zero(&mut self, n: u16) {
-        for word in self.wanted.iter_mut().take(board_size(n)) {
-            *word = 0;
-        }
+        let size = board_size(n).min(BOARD);
+        self.wanted[..size].fill(0);
         self.wanted[0] = n;
     }
 

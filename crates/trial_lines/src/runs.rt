@@ -62,6 +62,7 @@ impl Run {
     fn pieces(&mut self, rt: &impl Print, input: &[u8], piece: usize) -> io::Result<()>
         requires { 0 < piece }
     {
+        // By indices: with a slice that each turn cuts shorter, which was tried, the proof that the loop ends did not close.
         let mut at = 0;
         let mut end = 0;
         loop {
