@@ -1,5 +1,5 @@
 -- The program's loops: blocks one after another, a read with what waited before it, reads one after another.
-use Prim.Native.Nat.{ℕ, zero, suc, ◌+◌, ◌-◌, ◌≤◌, ◌<◌}
+use Prim.Native.Nat.{ℕ, zero, suc, ◌+◌, ◌-◌, ◌≤◌}
 use mathlib.Core.Path.{◌≡◌, refl, sym, ap, subst, ◌∙◌}
 use mathlib.Core.List.{List, [], ◌∷◌, ◌++◌, append_assoc, append-nil}
 use mathlib.Core.Bool.{Bool, true, false, false≢true}
@@ -35,10 +35,10 @@ unfolding run
 goes x ended s = record { inside = omega arith; lines = []; answered = refl; ran = refl; waits = refl }
 
 -- a call on what is left of x from index at on, lent as a part that ends where x does
-module _ {x : List ℕ} {ended : Bool} {s₀ : State} {at : ℕ} {board work : List ℕ} {t : Tally} {r : Block} {out board₁ work₁ out₁ : List ℕ}
-    (g : Going x ended s₀ at (state_of board work t)) (call : Leaves (take (length x - at) (drop at x)) ended (state_of board work t) out r board₁ work₁ out₁) where
-  part : Leaves (drop at x) ended (state_of board work t) out r board₁ work₁ out₁
-  part = subst (λ (l : List ℕ). Leaves l ended (state_of board work t) out r board₁ work₁ out₁) (take_all (length x - at) (drop at x) (omega (arith, length-drop at x))) call
+module _ {x : List ℕ} {ended : Bool} {s₀ : State} {at : ℕ} {board work : List ℕ} {t t₁ : Tally} {r : Block} {out board₁ work₁ out₁ : List ℕ}
+    (g : Going x ended s₀ at (state_of board work t)) (call : Leaves (take (length x - at) (drop at x)) ended (state_of board work t) out r t₁ board₁ work₁ out₁) where
+  part : Leaves (drop at x) ended (state_of board work t) out r t₁ board₁ work₁ out₁
+  part = subst (λ (l : List ℕ). Leaves l ended (state_of board work t) out r t₁ board₁ work₁ out₁) (take_all (length x - at) (drop at x) (omega (arith, length-drop at x))) call
 
   portion : Portion
   portion = block (length out) ended (state_of board work t) (drop at x)
@@ -47,7 +47,7 @@ module _ {x : List ℕ} {ended : Bool} {s₀ : State} {at : ℕ} {board work : L
   unfolding portion
   further = ap (λ (n : ℕ). drop n (drop at x)) (sym part.consumed) ∙ drop-drop r.consumed at x
 
-  pub goes_on : Going x ended s₀ (at + r.consumed) (state_of board₁ work₁ r.tally)
+  pub goes_on : Going x ended s₀ (at + r.consumed) (state_of board₁ work₁ t₁)
   unfolding portion
   goes_on = record {
     inside = omega (arith, part.inside, length-drop at x, g.inside);
@@ -61,14 +61,14 @@ module _ {x : List ℕ} {ended : Bool} {s₀ : State} {at : ℕ} {board work : L
     waits = ap (waits_of ended) (sym further) ∙ block-waits (length out) ended (state_of board work t) (drop at x) ∙ g.waits;
   }
 
-  pub stops : r.consumed ≡ 0 → reply_room ≤ length out → Served s₀ x ended (state_of board₁ work₁ r.tally) (drop at x)
+  pub stops : r.consumed ≡ 0 → reply_room ≤ length out → Served s₀ x ended (state_of board₁ work₁ t₁) (drop at x)
   stops z room =
       let idle = part.idle room z in
       let same : at + r.consumed ≡ at = omega arith in
-      let on : Going x ended s₀ at (state_of board₁ work₁ r.tally) = rw same at goes_on in
+      let on : Going x ended s₀ at (state_of board₁ work₁ t₁) = rw same at goes_on in
       let all : answered_of ended x ≡ on.lines =
       on.answered ∙ ap (λ (is : List Item). on.lines ++ is) (answered-none ended (drop at x) idle.0 idle.1 idle.2) ∙ append-nil on.lines in
-      serves s₀ x ended (state_of board₁ work₁ r.tally) (drop at x)
+      serves s₀ x ended (state_of board₁ work₁ t₁) (drop at x)
       (sym (ap (λ (is : List Item). (run s₀ is).state) all ∙ on.ran))
       (waits-all ended (drop at x) idle.0 idle.1 idle.2 ∙ on.waits)
 
@@ -142,14 +142,14 @@ module _ {s₀ s s' : State} {turns : ℕ} {wait wait' : List ℕ} {ended : Bool
   read : Served s₀ (joined g.pieces ++ p.piece) ended s' wait'
   read = serves_on p.piece g.served p.served
 
-  pub reads_on : ended ≡ false → 0 < turns → Reading s₀ (turns - 1) s' wait'
-  reads_on e h =
+  pub reads_on : ended ≡ false → (left : ℕ) → left + 1 ≡ turns → Reading s₀ left s' wait'
+  reads_on e left h =
       let more : p.piece ≡ [] → ⊥ = λ n. false≢true (sym e ∙ p.ending.1 n) in
       record {
         pieces = g.pieces ++ (p.piece ∷ []);
         full = full-snoc g.pieces p.piece g.full more;
         served = subst (λ (x : List ℕ). Served s₀ x false s' wait') (sym (joined_snoc g.pieces p.piece)) (subst (λ (b : Bool). Served s₀ (joined g.pieces ++ p.piece) b s' wait') e read);
-        count = omega (arith, g.count, length-append g.pieces (p.piece ∷ []));
+        count = omega (arith, h, g.count, length-append g.pieces (p.piece ∷ []));
       }
 
   pub reads_end : ended ≡ true → ReadAll s₀ ended s' wait'

@@ -1,18 +1,22 @@
-use Rattle.std.proofs.Common.{refl, arith}
-use Rattle.serving.proofs.Steps.{reads_none, reads_on, reads_end}
+use Rattle.std.proofs.Common.{◌-◌, ◌+◌, arith}
+use Rattle.serving.specs.Serving.{most_reads}
+use Rattle.serving.proofs.Steps.{reads_none, reads_on, reads_end, reads-out}
 use Rattle.serving.proofs.read_all.Goals as goal
 
-pub loop-turns-init : goal.loop-turns-init
-loop-turns-init g c = record { few = omega arith; open_still = refl; read = rw c.new_day.ensures (reads_none _) }
+pub loop-turn-init : goal.loop-turn-init
+loop-turn-init g c = record { few = omega arith; read = reads_none _ }
 
 pub returns-then-stand : goal.returns-then-stand
-returns-then-stand g c = reads_end c.loop-turns.invariant.read c.pull-stand.ensures.pulled c.if-stand.true
+returns-then-stand g c = reads_end c.loop-turn.invariant.read c.pull-stand.ensures.pulled c.if-stand.true
 
-pub loop-turns-preserved : goal.loop-turns-preserved
-loop-turns-preserved g c =
+pub loop-turn-preserved : goal.loop-turn-preserved
+loop-turn-preserved g c =
+    let l = c.loop-turn in
     let call = c.pull-stand in
     record {
       few = call.ensures.held_le_waiting;
-      open_still = c.if-stand.false;
-      read = reads_on c.loop-turns.invariant.read call.ensures.pulled c.if-stand.false (omega arith);
+      read = reads_on l.invariant.read call.ensures.pulled c.if-stand.false (most_reads - (l._turn + 1)) (omega (arith, c.loop-turn-test.true));
     }
+
+pub returns : goal.returns
+returns g c = reads-out c.loop-turn.invariant.read (omega (arith, c.loop-turn-test.false))

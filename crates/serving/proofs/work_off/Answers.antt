@@ -6,7 +6,7 @@ pub rooms-init : goal.rooms-init
 rooms-init g c = goes _ _ _
 
 pub returns-then-used-eq0-clause-served : goal.returns-then-used-eq0-clause-served
-returns-then-used-eq0-clause-served g c = stops c.rooms.invariant c.run_block-b.ensures c.if-used-eq0.true (omega arith)
+returns-then-used-eq0-clause-served g c = stops c.rooms.invariant c.run_block-block.ensures c.if-used-eq0.true (omega arith)
 
 pub rooms-preserved : goal.rooms-preserved
-rooms-preserved g c = goes_on c.rooms.invariant c.run_block-b.ensures
+rooms-preserved g c = goes_on c.rooms.invariant c.run_block-block.ensures
