@@ -168,10 +168,10 @@ pub fn open_board(board: &mut [u16], n: u16) -> Answer
     Ok(0)
 }
 
-pub fn accept(board: &mut [u16], work: &mut [u16], order: &Order) -> Answer
-    ensures { said result board.new work.new ≡ step (accept_call order.now.number order.now.count order.now.row) board.old work.old }
+pub fn accept(board: &mut [u16], work: &mut [u16], order: Order) -> Answer
+    ensures { said result board.new work.new ≡ step (accept_call order.number order.count order.row) board.old work.old }
 {
-    call(&Request::Accept(*order), board, work)
+    call(&Request::Accept(order), board, work)
 }
 
 pub fn withdraw(board: &mut [u16], work: &mut [u16], number: u16) -> Answer

@@ -32,7 +32,7 @@ pub extern "C" fn slotboard_accept_two(
         count: 2,
         row: [first, second, 0, 0, 0, 0, 0, 0],
     };
-    match board::accept(board, work, &order) {
+    match board::accept(board, work, order) {
         Err(Rejection::Blocked(slots)) => slots,
         Ok(_) | Err(Rejection::Refused(_)) | Err(Rejection::Undecided) => 0,
     }

@@ -20,11 +20,9 @@ pub struct RoundTrip {
 
 // Writes an order, and reads the line that then stands in the buffer, without its line feed: no bytes where the order was refused.
 #[tactic(auto, using(crate::proofs::WriteReads::reads))]
-pub fn write_and_read(buffer: &mut [u8], order: &Order) -> RoundTrip
-    ensures { WritesReads order.now.number order.now.count order.now.row buffer.old result buffer.new }
+pub fn write_and_read(buffer: &mut [u8], order: Order) -> RoundTrip
+    ensures { WritesReads order.number order.count order.row buffer.old result buffer.new }
 {
-    // A number behind a reference is known to be a word once it is read.
-    let _number = order.number;
     let wrote = write_order(buffer, order);
     let end = wrote.unwrap_or(0).saturating_sub(1);
     let line = read_line(&buffer[..end]);
@@ -37,7 +35,7 @@ fn write_line(line: Result<Line, Refusal>, buffer: &mut [u8]) -> Result<usize, R
 {
     let line = line?;
     match line.kind {
-        Kind::Accept => write_order(buffer, &line.order()),
+        Kind::Accept => write_order(buffer, line.order()),
         Kind::Open | Kind::Withdraw | Kind::Print => Ok(0),
     }
 }

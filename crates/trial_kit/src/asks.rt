@@ -12,7 +12,7 @@ pub fn ask(request: &Request, board: &mut [u16], work: &mut [u16]) -> Answer
 {
     match request {
         Request::Open(n) => open_board(board, *n),
-        Request::Accept(order) => accept(board, work, order),
+        Request::Accept(order) => accept(board, work, *order),
         Request::Withdraw(number) => withdraw(board, work, *number),
         Request::Print => print(board, work),
     }

@@ -98,7 +98,7 @@ fn is_written(order: &Order) -> bool
     requires { order.now.count ≤ 8 }
 {
     let mut out = [FILL; ROOM];
-    let trip = write_and_read(&mut out, order);
+    let trip = write_and_read(&mut out, *order);
     let size = line_size(order);
     let line = &out[..size - 1];
     trip == trip_of(order)
@@ -113,7 +113,7 @@ fn is_refused(order: &Order, room: usize, why: Refusal) -> bool
     requires { room ≤ 64 }
 {
     let mut out = [FILL; ROOM];
-    write_order(&mut out[..room], order) == Err(why) && out == [FILL; ROOM]
+    write_order(&mut out[..room], *order) == Err(why) && out == [FILL; ROOM]
 }
 
 // One byte too few, no slot and nine slots are refused.

@@ -139,15 +139,15 @@ pub fn close(t: Tally, out: &mut [u8]) -> usize
 }
 
 // The order writer. Refused, it writes nothing.
-pub fn write_order(buffer: &mut [u8], order: &Order) -> Result<usize, Refusal>
+pub fn write_order(buffer: &mut [u8], order: Order) -> Result<usize, Refusal>
     ensures { wrote_of result buffer.new
-        ≡ written order.now.number order.now.count order.now.row buffer.old }
+        ≡ written order.number order.count order.row buffer.old }
 {
-    judge(MOST_SLOTS, order)?;
+    judge(MOST_SLOTS, &order)?;
     if buffer.len() < NUMBER_BYTES + ORDER_WIDTH * usize::from(order.count) {
         return Err(Refusal::Short);
     }
     let mut cursor = Cursor { out: buffer, at: 0 };
-    cursor.order_line(order);
+    cursor.order_line(&order);
     Ok(cursor.at)
 }
