@@ -1,5 +1,6 @@
 // The calls of document 01 on a lent board. `perform` does each of them by what is known of board and work words, and keeps what is known true;
-// a single call finds that out first.
+// a single call finds that out first. Board and work words stay two loans, here and above: a call is lent work words of its own, an opening none, a
+// print may not write the board, and a struct of two `&mut` would be taken apart again in each function.
 #![tactic(auto)]
 
 ghost use Rattle.std.specs.Prelude.{◌≡◌, cond, min, ltb, leb};

@@ -48,7 +48,7 @@ ten_columns vs = take most_columns (vs ++ replicate most_columns 0)
 abbrev pub line_read : List ℕ → Kind → Line
 line_read l kind = record { kind = kind; count = column_count l; columns = ten_columns (values l) }
 
--- A line that is not refused begins with a known letter (`LineUses.line_taken`).
+-- A line that is not refused begins with a known letter, so `Malformed` never stands for an unknown one here (`LineUses.refused-as`).
 unfoldable pub line_of : List ℕ → Result Line Refusal
 line_of l =
     let code = line_refusal l in

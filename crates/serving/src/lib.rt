@@ -1,5 +1,6 @@
 // Reads an input to its end in pieces, hands them to the block function and writes the answers, then the N line. It is proved here what the loop keeps:
-// no byte that waits between two reads is lost, and no line.
+// no byte that waits between two reads is lost, and no line. How large buffer and room are is asked by each function and not kept in a struct, since
+// the check does not cover a ghost field beside a `&mut`.
 #![tactic(auto)]
 
 ghost use Rattle.std.specs.Prelude.{◌≡◌, ◌+◌, ◌≤◌, ◌<◌, length, take, drop};

@@ -54,6 +54,7 @@ pub fn put_free(board: &mut [u16], s: u16)
     put_record(board, s, &[0; SLOT_WORDS]);
 }
 
+// What the three below share: each of them names a place, and nothing else.
 fn put_word(board: &mut [u16], i: usize, x: u16)
     ensures { board.new ≡ set board.old i x }
 {

@@ -1,5 +1,5 @@
 // What the trial programs share: marks in words that must stay, slots and work words as they must be, tallies, draws, and
-// the numbers of a line. Nothing here is taken from the library under test but its calls.
+// the numbers of a line. Nothing here is taken from the library under test but its calls and the types of what they take and answer.
 #![tactic(auto)]
 
 mod asks;
