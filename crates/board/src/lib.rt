@@ -102,7 +102,7 @@ fn past_gate(request: &Request, board: &mut [u16], work: &mut [u16]) -> Answer
     }
 }
 
-// Check 6, of a board that passes the check.
+// Check 6, of a board that was opened: `assess` has it of the board that it looks at.
 fn work_gate(len: usize, all: usize) -> Result<(), Refusal>
     ensures { gate_number result ≡ cond (ltb len all) 6 0 }
 {

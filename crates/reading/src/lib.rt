@@ -51,7 +51,8 @@ impl Kind {
     }
 }
 
-// A line that is read: its columns, and 0 for each that it does not have.
+// A line that is read: its columns as ten numbers and their count, 0 for each that it does not have. Its numbers are those of the line, also where a
+// call could not carry them, as a ninth slot.
 #[derive(Clone, Copy, Debug, PartialEq, Eq)]
 pub struct Line {
     pub kind: Kind,
@@ -60,7 +61,8 @@ pub struct Line {
 }
 
 impl Line {
-    // The order that a line's columns give. Those after the number are the slots, and the first eight the row: check 8 turns a ninth down.
+    // The order that a line's columns give. Those after the number are the slots, and the first eight the row: check 8 turns a ninth down. At most nine: the cast
+    // loses nothing.
     pub fn order(&self) -> Order
         ensures { result ≡ line_order self.now }
     {

@@ -19,7 +19,8 @@ fn padded(order: &Order) -> [u16; MOST_CHOICES]
     row
 }
 
-// The words of a slot that holds the order. Its list is written whole, whichever slots are open to it.
+// The words of a slot that holds the order. Its list is written whole, whichever slots are open to it; it has at most
+// eight, so the cast loses nothing.
 fn record_of(order: &Order, label: u16) -> [u16; SLOT_WORDS]
     ensures { result ≡ slot_record (carried order.now) label }
 {
