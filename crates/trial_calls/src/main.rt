@@ -25,10 +25,11 @@ use std::io::Read;
 
 fn main(rt: HostRuntime) -> io::Result<()> {
     let mut text = Vec::new(rt.alloc());
-    rt.reader().read_to_end(&mut text)?;
+    // A read that fails is the input's end: what came before it is run.
+    let _ = rt.reader().read_to_end(&mut text);
     let mut bench = Bench::new();
     for line in text.split(|byte| *byte == b'\n') {
-        script::perform(&rt, rt.alloc(), line, &mut bench)?;
+        script::perform(&rt, line, &mut bench)?;
     }
     let all = bench.tally.all;
     println!(rt; "all: {all}")

@@ -1,10 +1,12 @@
 // The script's lines.
 use crate::bench::Bench;
 use board::Request;
-use std::alloc::Global;
 use std::{array, io};
 use trial_kit::numbers;
 use words::Order;
+
+// How many numbers a line has room for before its arrow, and how many after it.
+const NUMBERS: usize = 64;
 
 // Number i of a line; one that the line does not have is 0.
 pub fn number(numbers: &[u16], i: usize) -> u16 {
@@ -46,7 +48,7 @@ fn command(
 }
 
 // One line.
-pub fn perform(rt: &impl Print, alloc: Global, line: &[u8], bench: &mut Bench) -> io::Result<()> {
+pub fn perform(rt: &impl Print, line: &[u8], bench: &mut Bench) -> io::Result<()> {
     bench.tally.next_case();
     let Some((letter, rest)) = line.split_first() else {
         return Ok(());
@@ -57,7 +59,15 @@ pub fn perform(rt: &impl Print, alloc: Global, line: &[u8], bench: &mut Bench) -
     }
     let arrow = rest.iter().position(|byte| *byte == b'>');
     let (asked, expected) = rest.split_at(arrow.unwrap_or(rest.len()));
-    let asked = numbers(alloc, asked)?;
-    let expected = numbers(alloc, expected)?;
-    command(rt, *letter, &asked, &expected, bench)
+    let mut given = [0; NUMBERS];
+    let mut wanted = [0; NUMBERS];
+    let given_count = numbers(asked, &mut given);
+    let wanted_count = numbers(expected, &mut wanted);
+    command(
+        rt,
+        *letter,
+        &given[..given_count],
+        &wanted[..wanted_count],
+        bench,
+    )
 }

@@ -6,6 +6,7 @@ ghost use Rattle.trial_kit.specs.Marks.{work_size, mark as mark_of, HasMarks, Ha
 fn mark(i: usize) -> u16
     ensures { result ≡ mark_of i }
 {
+    // At most 999.
     (i % 1000) as u16 + 7000
 }
 

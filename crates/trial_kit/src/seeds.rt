@@ -13,6 +13,7 @@ impl Seed {
         ensures bound { result ≤ k - 1 }
     {
         self.0 = self.0.wrapping_mul(1664525).wrapping_add(1013904223);
+        // Less than 65536, since 32 bits are divided by it.
         let upper = (self.0 / 65536) as u16;
         upper.checked_rem(k).unwrap_or(0)
     }

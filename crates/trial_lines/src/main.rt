@@ -9,7 +9,8 @@ use std::io::Read;
 
 fn main(rt: HostRuntime) -> io::Result<()> {
     let mut input = Vec::new(rt.alloc());
-    rt.reader().read_to_end(&mut input)?;
+    // A read that fails is the input's end: what came before it is run.
+    let _ = rt.reader().read_to_end(&mut input);
     writes::run(&rt)?;
     runs::run_all(&rt, &input)
 }

@@ -44,6 +44,7 @@ fn order(t: u16) -> Order
     ensures { result.count ≤ 8 }
 {
     let count = t % 8 + 1;
+    // A remainder by 65536 fits 16 bits.
     let x = (u32::from(t) * SPREAD % 65536) as u16;
     let mut row = [0; 8];
     for j in 0..count {

@@ -1,0 +1,2 @@
+-- Lemmas of the kit's proofs.
+pub mod Found
