@@ -14,6 +14,7 @@ const SMALL: usize = 13;
 const LARGE: usize = 997;
 
 // Words of a board of 1,024 slots and its work words, and bytes for answers: the longest, and a little more.
+// Written out and not the library's own, so that a wrong one there shows.
 const BOARD: usize = 11266;
 
 const WORK: usize = 13316;

@@ -17,7 +17,7 @@ const ROOM: usize = 64;
 
 const FILL: u8 = 85;
 
-// Bytes of an order line without slots, and of a column.
+// Bytes of an order line without slots, and of a column: written out and not the library's own, so that a wrong one there shows.
 const FRAME: usize = 8;
 
 const COLUMN: usize = 6;
@@ -25,30 +25,48 @@ const COLUMN: usize = 6;
 const NUMBERS: [u16; 10] = [1, 9, 10, 99, 100, 999, 1000, 9999, 10000, 65535];
 
 // Times this, the case's number is scattered over 16 bits.
-const SPREAD: u32 = 40503;
+const SPREAD: u16 = 40503;
 
-// Slot j of a list of so many slots: the lowest, the highest, or one of 128 by x.
-fn slot(list: u16, count: u16, j: u16, x: u16) -> u16
-    requires list_size { count ≤ 8 }
-    requires within { j < count }
-{
-    match list {
-        0 => j + 1,
-        1 => 1025 - count + j,
-        _ => 128 * j + 1 + x / (j + 1) % 128,
+// The slots of a list: the lowest, the highest, or one out of each 128, by this number.
+#[derive(Clone, Copy)]
+enum List {
+    Lowest,
+    Highest,
+    Scattered(u16),
+}
+
+impl List {
+    // Of ten lists one is of the lowest slots, one of the highest, and eight are scattered.
+    fn of_case(t: u16) -> List {
+        match t / 80 {
+            0 => List::Lowest,
+            1 => List::Highest,
+            _ => List::Scattered(t.wrapping_mul(SPREAD)),
+        }
+    }
+
+    // Slot j, where it has so many slots.
+    fn slot(self, count: u16, j: u16) -> u16
+        requires list_size { count ≤ 8 }
+        requires within { j < count }
+    {
+        match self {
+            List::Lowest => j + 1,
+            List::Highest => 1025 - count + j,
+            List::Scattered(x) => 128 * j + 1 + x / (j + 1) % 128,
+        }
     }
 }
 
-// Case t: each count with each number, and lists of the lowest slots, of the highest, and eight that are scattered.
+// Case t: each count with each number, and with each list.
 fn order(t: u16) -> Order
     ensures { result.count ≤ 8 }
 {
     let count = t % 8 + 1;
-    // A remainder by 65536 fits 16 bits.
-    let x = (u32::from(t) * SPREAD % 65536) as u16;
+    let list = List::of_case(t);
     let mut row = [0; 8];
     for j in 0..count {
-        row[usize::from(j)] = slot(t / 80, count, j, x);
+        row[usize::from(j)] = list.slot(count, j);
     }
     Order {
         number: NUMBERS[usize::from(t / 8 % 10)],
