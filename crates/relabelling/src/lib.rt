@@ -1,14 +1,17 @@
 // The labels that a withdrawal leaves: 1 in each held slot.
 #![tactic(auto)]
 
-ghost use Rattle.std.specs.Prelude.{true, ◌≡◌, ◌+◌, ◌*◌, ◌≤◌, length};
+ghost use Rattle.std.specs.Prelude.{true, ◌≡◌, ℕ, ◌+◌, ◌*◌, ◌≤◌, ◌<◌, length};
 ghost use Rattle.matching.specs.Lists.{slots};
 ghost use Rattle.rules.specs.Calls.{relabelled, relabelled_all};
 ghost use Rattle.rules.specs.Layout.{board_words, slot_words};
-ghost use Rattle.relabelling.specs.Relabelled.{Settled, relabelled_from, four_relabelled, eight_relabelled};
+ghost use Rattle.relabelling.specs.Relabelled.{Settled, relabelled_from, relabelled_run};
 
 use storing::put_label;
 use words::{LABEL, SLOT_WORDS, board_words, number_at, start_of};
+
+// So many slots are looked at together: a walk slot by slot, with a branch at each, takes three times as long. (Counts in 16 bits take longer too.)
+const TOGETHER: usize = 8;
 
 // The label 1 for slot s, if it holds an order.
 fn relabel(board: &mut [u16], s: u16)
@@ -23,10 +26,8 @@ fn relabel(board: &mut [u16], s: u16)
 fn relabel_slow(board: &mut [u16], n: u16)
     ensures { board.new ≡ relabelled_all board.old (slots n) }
 {
-    let mut s = n;
-    while 0 < s {
+    for s in (1..=n).rev() {
         relabel(board, s);
-        s -= 1;
     }
 }
 
@@ -36,15 +37,9 @@ fn relabel_slow(board: &mut [u16], n: u16)
 fn settled(number: u16, label: u16) -> bool
     ensures { result ≡ true → Settled number label }
 {
-    let both = label as u64 * 65536 + number as u64;
-    let raised = (both + 65535) / 65536;
-    if raised == 0 {
-        return true;
-    }
-    if raised == 2 {
-        return true;
-    }
-    false
+    let both = u64::from(label) * 65536 + u64::from(number);
+    let raised = both.div_ceil(65536);
+    raised == 0 || raised == 2
 }
 
 // Of the slot whose words begin at index `at`.
@@ -55,33 +50,12 @@ fn settled_in(board: &[u16], at: usize) -> bool
     settled(board[at], board[at + LABEL])
 }
 
-// Of four slots, the lowest of which begins at `at`.
-fn four_settled(board: &[u16], at: usize) -> bool
-    requires { at + 4 * slot_words ≤ length board.now }
-    ensures { result ≡ true → four_relabelled board.now at ≡ board.now }
+// Of the slots that are looked at together, the lowest of which begins at `at`.
+fn all_settled(board: &[u16], at: usize) -> bool
+    requires { at + TOGETHER * slot_words ≤ length board.now }
+    ensures { result ≡ true → (k : ℕ) → k < TOGETHER → relabelled_from board.now (at + k * slot_words) ≡ board.now }
 {
-    let second = at + SLOT_WORDS;
-    let third = second + SLOT_WORDS;
-    if !settled_in(board, third + SLOT_WORDS) {
-        return false;
-    }
-    if !settled_in(board, third) {
-        return false;
-    }
-    if !settled_in(board, second) {
-        return false;
-    }
-    settled_in(board, at)
-}
-
-fn eight_settled(board: &[u16], at: usize) -> bool
-    requires { at + 8 * slot_words ≤ length board.now }
-    ensures { result ≡ true → eight_relabelled board.now at ≡ board.now }
-{
-    if !four_settled(board, at + 4 * SLOT_WORDS) {
-        return false;
-    }
-    four_settled(board, at)
+    (0..TOGETHER).all(|k| settled_in(board, at + k * SLOT_WORDS))
 }
 
 fn relabel_in(board: &mut [u16], at: usize)
@@ -93,44 +67,19 @@ fn relabel_in(board: &mut [u16], at: usize)
     }
 }
 
-fn relabel_four(board: &mut [u16], at: usize)
-    requires { at + 4 * slot_words ≤ length board.old }
-    ensures { board.new ≡ four_relabelled board.old at }
+fn relabel_together(board: &mut [u16], at: usize)
+    requires { at + TOGETHER * slot_words ≤ length board.old }
+    ensures { board.new ≡ relabelled_run board.old at TOGETHER }
 {
-    let second = at + SLOT_WORDS;
-    let third = second + SLOT_WORDS;
-    relabel_in(board, third + SLOT_WORDS);
-    relabel_in(board, third);
-    relabel_in(board, second);
-    relabel_in(board, at);
-}
-
-fn relabel_eight(board: &mut [u16], at: usize)
-    requires { at + 8 * slot_words ≤ length board.old }
-    ensures { board.new ≡ eight_relabelled board.old at }
-{
-    if eight_settled(board, at) {
+    if all_settled(board, at) {
         return;
     }
-    relabel_four(board, at + 4 * SLOT_WORDS);
-    relabel_four(board, at);
-}
-
-// Eight slots at a time, from slot n down; so many slots are left. Of a board that has its words.
-fn relabel_eights(board: &mut [u16], n: u16) -> u16
-    requires { board_words n ≤ length board.old }
-    ensures { relabelled_all board.new (slots result) ≡ relabelled_all board.old (slots n) }
-{
-    let mut s = n;
-    while 8 <= s {
-        s -= 8;
-        let at = start_of(s + 1);
-        relabel_eight(board, at);
+    for k in (0..TOGETHER).rev() {
+        relabel_in(board, at + k * SLOT_WORDS);
     }
-    s
 }
 
-// "sets each held slot's label to 1". One comparison for the whole board: this passes over every slot.
+// "sets each held slot's label to 1", from slot n down. One comparison for the whole board: this passes over every slot.
 pub fn relabel_all(board: &mut [u16], n: u16)
     ensures { board.new ≡ relabelled_all board.old (slots n) }
 {
@@ -138,6 +87,10 @@ pub fn relabel_all(board: &mut [u16], n: u16)
         relabel_slow(board, n);
         return;
     }
-    let rest = relabel_eights(board, n);
+    let rest = n % TOGETHER as u16;
+    let lowest = start_of(rest + 1);
+    for k in (0..usize::from(n) / TOGETHER).rev() {
+        relabel_together(board, lowest + k * TOGETHER * SLOT_WORDS);
+    }
     relabel_slow(board, rest);
 }
