@@ -34,51 +34,59 @@ pub fn is_answered(outcome: &Outcome, n: u16, moves: u64, answer: Answer) -> boo
     }
 }
 
-// Only where the order is blocked may some work words be other than 0: they show the blocked slots.
-fn work_is(outcome: &Outcome, n: u16, work: &[u16]) -> bool {
-    match outcome {
-        Outcome::Blocked(slots) => {
-            blocked(work, slots.len()) == slots.as_slice() && is_cleared(work, n, slots.len())
+// What a call on a board of n slots left, and the board before it.
+#[derive(Clone, Copy)]
+pub struct Left<'a> {
+    pub n: u16,
+    pub before: &'a [u16],
+    pub board: &'a [u16],
+    pub work: &'a [u16],
+    // Those on the board, by number.
+    pub orders: &'a [Order],
+}
+
+impl Left<'_> {
+    // Only where the order is blocked may some work words be other than 0: they show the blocked slots.
+    fn work_is(&self, outcome: &Outcome) -> bool {
+        match outcome {
+            Outcome::Blocked(slots) => {
+                blocked(self.work, slots.len()) == slots.as_slice()
+                    && is_cleared(self.work, self.n, slots.len())
+            }
+            _ => is_cleared(self.work, self.n, 0),
         }
-        _ => is_cleared(work, n, 0),
     }
-}
 
-// The board passes the check, has n and the count, and keeps the words behind it.
-fn board_is(board: &[u16], n: u16, held: usize) -> bool {
-    check(board)
-        && board.first().copied() == Some(n)
-        && board.get(1).copied().map(usize::from) == Some(held)
-        && has_marks(board, board_size(n))
-}
-
-// The board has the orders that it should, after a withdrawal all with label 1; it is as it was where nothing was accepted.
-fn orders_are(plan: &Plan, n: u16, before: &[u16], board: &[u16], orders: &[Order]) -> bool {
-    match plan.outcome {
-        Outcome::Accepted => plan.orders.as_slice() == orders,
-        Outcome::Withdrawn => plan.orders.as_slice() == orders && all_new(board, n),
-        _ => before == board,
+    // The board passes the check, has n and the count, and keeps the words behind it.
+    fn board_is(&self, held: usize) -> bool {
+        check(self.board)
+            && self.board.first().copied() == Some(self.n)
+            && self.board.get(1).copied().map(usize::from) == Some(held)
+            && has_marks(self.board, board_size(self.n))
     }
-}
 
-// What is wrong, by a letter: the work words, the board, the orders on it, or where they sit.
-pub fn fault(
-    plan: &Plan,
-    n: u16,
-    before: &[u16],
-    board: &[u16],
-    work: &[u16],
-    orders: &[Order],
-) -> Option<char> {
-    if !work_is(&plan.outcome, n, work) {
-        Some('w')
-    } else if !board_is(board, n, plan.orders.len()) {
-        Some('b')
-    } else if !orders_are(plan, n, before, board, orders) {
-        Some('o')
-    } else if !all_sit(board, n) {
-        Some('s')
-    } else {
-        None
+    // The board has the orders that it should, after a withdrawal all with label 1; it is as it was where nothing was accepted.
+    fn orders_are(&self, plan: &Plan) -> bool {
+        match plan.outcome {
+            Outcome::Accepted => plan.orders.as_slice() == self.orders,
+            Outcome::Withdrawn => plan.orders.as_slice() == self.orders
+                && all_new(self.board, self.n),
+            _ => self.before == self.board,
+        }
+    }
+
+    // What is wrong, by a letter: the work words, the board, the orders on it, or where they sit.
+    pub fn fault(&self, plan: &Plan) -> Option<char> {
+        if !self.work_is(&plan.outcome) {
+            Some('w')
+        } else if !self.board_is(plan.orders.len()) {
+            Some('b')
+        } else if !self.orders_are(plan) {
+            Some('o')
+        } else if !all_sit(self.board, self.n) {
+            Some('s')
+        } else {
+            None
+        }
     }
 }

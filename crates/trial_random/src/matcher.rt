@@ -47,6 +47,7 @@ pub fn blocked_slots(
 ) -> Result<Option<Vec<u16>>, AllocError> {
     let mut matcher = Matcher::new(alloc);
     matcher.visit(&order.row)?;
+    // By an index, as the queue grows meanwhile, and with an end, as a proved loop has one: no slot is queued twice.
     for head in 0..PLACES {
         let Some(&s) = matcher.queue.get(head) else {
             break;

@@ -114,6 +114,7 @@ pub fn next_plan(
     board: &[u16],
     n: u16,
 ) -> Result<Plan, AllocError> {
+    // A number and no enum: it is drawn, and no kind is kept as one.
     let kind = seed.draw(20);
     let number = number(seed, board, n, kind < 3);
     let order = order(seed, n, number);

@@ -1,7 +1,7 @@
 // The board and the work words that are lent, and what goes on from call to call.
 use crate::boards::orders_on;
 use crate::counts::Counts;
-use crate::judge::{fault, is_answered, moves_after};
+use crate::judge::{Left, is_answered, moves_after};
 use crate::plan::next_plan;
 use board::{Answer, open_board};
 use std::alloc::Global;
@@ -31,6 +31,12 @@ fn is_opened(board: &[u16], n: u16, answer: Answer) -> bool {
             .all(|word| *word == 0)
 }
 
+// Four times the board words of n slots, and some more; no size is above 1,024, and so it fits.
+// A draw below a draw below this is less than n in about one call of ten.
+fn lowering_range(n: u16) -> u16 {
+    4 * (11 * n.min(1024) + 9)
+}
+
 // Labels are at most so high. Where the board passes the check it still does.
 fn lower(board: &mut [u16], n: u16, most: u16) {
     for s in 1..=n {
@@ -55,7 +61,7 @@ impl Trial {
 
     // Now and then labels go down, more or less.
     fn lower_labels(&mut self, n: u16) {
-        let many = self.seed.draw(4 * (11 * n.min(1024) + 9));
+        let many = self.seed.draw(lowering_range(n));
         let most = self.seed.draw(many);
         if most < n {
             lower(&mut self.board, n, most + 1);
@@ -86,7 +92,14 @@ impl Trial {
         let answer = ask(&plan.request, &mut self.board, &mut self.work);
         self.moves = moves_after(&plan.outcome, self.moves, answer);
         let orders = orders_on(self.alloc, &self.board, n)?;
-        let wrong = fault(&plan, n, before, &self.board, &self.work, &orders);
+        let left = Left {
+            n,
+            before,
+            board: &self.board,
+            work: &self.work,
+            orders: &orders,
+        };
+        let wrong = left.fault(&plan);
         let right = is_answered(&plan.outcome, n, self.moves, answer);
         self.tally.check(rt, 'r', right)?;
         self.tally.note(rt, wrong)?;
