@@ -49,7 +49,7 @@ fn put_opened(board: &mut [u16], n: u16)
 fn open_gate(board: &[u16], n: u16) -> Result<(), Refusal>
     ensures { gate_number result ≡ first (open_checks n board.now) }
 {
-    if n == 0 || MOST_SLOTS < n {
+    if !(1..=MOST_SLOTS).contains(&n) {
         return Err(Refusal::BadSize);
     }
     if short_for(n, board) {
