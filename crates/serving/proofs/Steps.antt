@@ -7,7 +7,7 @@ use native.Mathlib.Omega.{arith}
 use lib.ListN.{length, take, drop, length-drop, length-append}
 use lib.Seq.{drop-drop, take-nil, take_all, take-add, take_at, length-take-le}
 use lib.Dec.{eqb, ltb}
-use borrow.Author.Tests.{eqb-true, eq-eqb, le-ltb}
+use borrow.Author.Tests.{eqb-true, eq-eqb, ne_eqb, le-ltb}
 use Rattle.rules.specs.Runs.{State, Out, Item, run, tally_line}
 use Rattle.rules.specs.Chunks.{reply_room, waiting, Portion, block}
 use Rattle.rules.specs.Serving.{answered_of, waits_of, Served}
@@ -114,6 +114,9 @@ module _ (buf buf₁ buf₂ : List ℕ) (held end at : ℕ) {s s' : State}
 
   pub pulls-few : end - at ≤ waiting
   pulls-few = omega (arith, waits-few (eqb end held) (take end buf₁), ap length work.waits, length-drop at (take end buf₁), length-take-le end buf₁ low)
+
+  pub pulls-on : (end ≡ held → ⊥) → Pulled s (take held buf) false s' (take (end - at) buf₂)
+  pulls-on n = subst (λ (b : Bool). Pulled s (take held buf) b s' (take (end - at) buf₂)) (ne_eqb end held n) pulls
 
 -- ---- all reads
 

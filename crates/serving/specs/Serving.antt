@@ -1,9 +1,18 @@
 -- What the program does with the bytes that its reads bring. No contract can say which these are, or that a read took place: so each promise says that
 -- there are some, and every promise of one read stands between what waited before it and what waits after it.
-use Rattle.std.specs.Prelude.{ℕ, ◌≤◌, ◌<◌, ◌≡◌, ◌↔◌, ◌⊎◌, List, [], ◌∷◌, ◌++◌, Bool, true, false, length, take}
+use Rattle.std.specs.Prelude.{ℕ, ◌≤◌, ◌<◌, ◌≡◌, ◌↔◌, ◌⊎◌, List, [], ◌∷◌, ◌++◌, Bool, true, false, length, take, Option, Some, None}
 use Rattle.rules.specs.Runs.{State, Counts, new_day, tally_line}
 use Rattle.rules.specs.Chunks.{reply_room, waiting}
 use Rattle.rules.specs.Serving.{Served}
+
+-- What a read leaves is a number of bytes that wait while more may come, and nothing once the input has ended.
+abbrev pub has_ended : Option ℕ → Bool
+has_ended None = true
+has_ended (Some held) = false
+
+abbrev pub held_of : Option ℕ → ℕ
+held_of None = 0
+held_of (Some held) = held
 
 -- One read, from the state s on with the bytes `wait` held back: the state s' and the bytes wait' after it.
 pub record Pulled (s : State) (wait : List ℕ) (ended : Bool) (s' : State) (wait' : List ℕ) : Type 0 where

@@ -1,13 +1,13 @@
 // Reads an input to its end in pieces, hands them to the block function and writes the answers, then the N line. It is proved here what the loop keeps:
-// no byte that waits between two reads is lost, and no line. How large buffer and room are is asked by each function and not kept in a struct, since
-// the check does not cover a ghost field beside a `&mut`.
+// no byte that waits between two reads is lost, and no line. Board, work, tally and room stay parameters: each method of a struct that
+// borrows them would have to promise, too, that it keeps these borrows and the room's length, and the check does not cover a ghost field that says so.
 #![tactic(auto)]
 
 ghost use Rattle.std.specs.Prelude.{◌≡◌, ◌+◌, ◌≤◌, ◌<◌, length, take, drop};
 ghost use Rattle.rules.specs.Chunks.{reply_room, waiting};
 ghost use Rattle.rules.specs.Serving.{Served};
 ghost use Rattle.answers.specs.Values.{state_of};
-ghost use Rattle.serving.specs.Serving.{Pulled, ReadAll, Serves};
+ghost use Rattle.serving.specs.Serving.{has_ended, held_of, Pulled, ReadAll, Serves};
 
 use answers::Tally;
 use running::{REPLY_ROOM, WAITING, run_block};
@@ -64,14 +64,7 @@ fn fill<R: Read>(input: &mut R, buf: &mut [u8], held: usize) -> usize
     held + input.read(&mut buf[held..]).unwrap_or(0)
 }
 
-// Where the reading stands: whether the input has ended, and how many bytes at the front of the buffer wait for more.
-#[derive(Clone, Copy)]
-struct Stand {
-    ended: bool,
-    held: usize,
-}
-
-// One read, and what it brings worked off. What waits for more stands at the front.
+// One read, and what it brings worked off. How many bytes wait for more, at the front of the buffer; None once the input has ended, for then nothing waits.
 fn pull<R: Read, W: Write>(
     input: &mut R,
     output: &mut W,
@@ -81,17 +74,17 @@ fn pull<R: Read, W: Write>(
     work: &mut [u16],
     tally: &mut Tally,
     out: &mut [u8],
-) -> Stand
+) -> Option<usize>
     requires { (held ≤ waiting) × (waiting < length buf.old) × (reply_room ≤ length out.old) }
-    ensures held_le_waiting { result.held ≤ waiting }
-    ensures pulled { Pulled (state_of board.old work.old tally.old) (take held buf.old) result.ended (state_of board.new work.new tally.new) (take result.held buf.new) }
+    ensures held_le_waiting { held_of result ≤ waiting }
+    ensures pulled { Pulled (state_of board.old work.old tally.old) (take held buf.old) (has_ended result) (state_of board.new work.new tally.new) (take (held_of result) buf.new) }
 {
     let end = fill(input, buf, held);
     let ended = end == held;
     let at = work_off(output, &buf[..end], ended, board, work, tally, out);
     let left = end - at;
     move_front(buf, at, left);
-    Stand { ended, held: left }
+    if ended { None } else { Some(left) }
 }
 
 // Reads to the end. A proved loop ends, and nothing says that the input does, so it makes at most as many turns as no run uses up.
@@ -103,19 +96,15 @@ fn read_all<R: Read, W: Write>(
     work: &mut [u16],
     tally: &mut Tally,
     out: &mut [u8],
-) -> Stand
+) -> Option<usize>
     requires { (waiting < length buf.old) × (reply_room ≤ length out.old) }
-    ensures { ReadAll (state_of board.old work.old tally.old) result.ended (state_of board.new work.new tally.new) (take result.held buf.new) }
+    ensures { ReadAll (state_of board.old work.old tally.old) (has_ended result) (state_of board.new work.new tally.new) (take (held_of result) buf.new) }
 {
     let mut held = 0;
     for _turn in 0..u64::MAX {
-        let stand = pull(input, output, held, buf, board, work, tally, out);
-        if stand.ended {
-            return stand;
-        }
-        held = stand.held;
+        held = pull(input, output, held, buf, board, work, tally, out)?;
     }
-    Stand { ended: false, held }
+    Some(held)
 }
 
 // The whole run. A buffer that could not show that a line is too long, or a room that an answer could outgrow, is turned down: then nothing is read.
