@@ -1,4 +1,5 @@
 // What the check asks of one slot.
+// Board and n stay two arguments: n is any number, as in the definitions, not the board's own. A struct of both proves, but lengthens each contract.
 ghost use Rattle.std.specs.Prelude.{◌≡◌, length};
 ghost use Rattle.rules.specs.Check.{zeros, low_label, held_fine, slot_fine};
 ghost use Rattle.rules.specs.Layout.{slot_words, reads, base};
