@@ -17,10 +17,10 @@ use Rattle.rules.proofs.Days.{kept-by-lines}
 use Rattle.framing.specs.Ends.{line_end}
 use Rattle.writing.proofs.Texts.{sets-start, sets-next}
 use Rattle.answers.specs.declared.Tally.{Tally}
-use Rattle.running.specs.declared.Block.{Block}
-use Rattle.answers.specs.Values.{state_of}
-use Rattle.running.specs.BlockLoop.{Answered, Left, todo, Turning}
 use Rattle.running.specs.BlockPromise.{Leaves}
+use Rattle.running.specs.declared.Answering.{Answering}
+use Rattle.running.specs.declared.Block.{Block}
+use Rattle.running.specs.BlockLoop.{state_at, Answered, Left, todo, Turning, Ends}
 use Rattle.running.proofs.LineEnds.{line-ends, line_clean, line-length, line-split, rest-clean, rest-length}
 
 -- one line done: p is its answer o and then p'
@@ -37,21 +37,21 @@ left-joined p p' q i o out₀ out out₁ at n written end e e₁ e₂ h =
     }
 
 -- the end: what is left to do comes to the portion z, and it is done
-leave : (p z : Portion) (input : List ℕ) (ended : Bool) (s₀ : State) (out₀ out out₁ board₁ work₁ : List ℕ) (at written : ℕ) (r : Block) (t' : Tally)
+leave : (p z : Portion) (input : List ℕ) (ended : Bool) (s₀ : State) (out₀ out : List ℕ) (a : Answering) (at written : ℕ) (r : Block)
     → Left p (block (length out₀) ended s₀ input) out₀ out at written → p ≡ z
-    → r.consumed ≡ at + z.used → r.written ≡ written + length z.text → state_of board₁ work₁ t' ≡ z.state → out₁ ≡ sets out written z.text
-    → r.consumed ≤ length input → r.written ≤ length out₀ → Leaves input ended s₀ out₀ r t' board₁ work₁ out₁
-leave p z input ended s₀ out₀ out out₁ board₁ work₁ at written r t' h e e₁ e₂ e₃ e₄ i f =
+    → r.consumed ≡ at + z.used → r.written ≡ written + length z.text → state_at a ≡ z.state → a.out.now ≡ sets out written z.text
+    → r.consumed ≤ length input → r.written ≤ length out₀ → Ends input ended s₀ out₀ r a
+leave p z input ended s₀ out₀ out a at written r h e e₁ e₂ e₃ e₄ i f =
     let q = block (length out₀) ended s₀ input in
     let u : p.used ≡ z.used = ap (λ (x : Portion). x.used) e in
     let t : p.text ≡ z.text = ap (λ (x : Portion). x.text) e in
     let long : r.written ≡ length q.text = omega (arith, h.long, ap length t) in
     let used : r.consumed ≡ q.used = omega (arith, h.used) in
-    let left : out₁ ≡ q.text ++ drop (length q.text) out₀ = e₄ ∙ rw t at h.stored ∙ sets-start out₀ q.text (omega arith) in
-    let wrote : take r.written out₁ ≡ q.text = rw (long, left) (take-append_seam q.text _) in
-    let same : state_of board₁ work₁ t' ≡ q.state = e₃ ∙ ap (λ (x : Portion). x.state) (sym e) ∙ h.state in
+    let left : a.out.now ≡ q.text ++ drop (length q.text) out₀ = e₄ ∙ rw t at h.stored ∙ sets-start out₀ q.text (omega arith) in
+    let wrote : take r.written a.out.now ≡ q.text = rw (long, left) (take-append_seam q.text _) in
+    let same : state_at a ≡ q.state = e₃ ∙ ap (λ (x : Portion). x.state) (sym e) ∙ h.state in
     let ran : run s₀ q.lines ≡ record { text = q.text; state = q.state } = block_run (length out₀) ended s₀ input in
-    let board : (run s₀ q.lines).state.board ≡ board₁ = ap (λ (o : Out). o.state.board) ran ∙ ap (λ (s : State). s.board) (sym same) in
+    let board : (run s₀ q.lines).state.board ≡ a.board.now = ap (λ (o : Out). o.state.board) ran ∙ ap (λ (s : State). s.board) (sym same) in
     record {
       consumed = used;
       written = long;
@@ -82,69 +82,76 @@ one_left : (room : ℕ) (s : State) (r : List ℕ) → reply_room ≤ room → (
 one_left room s [] h n = absurd (n refl)
 one_left room s (b ∷ r) h n = rw (le-leb reply_room room h, add-zero, append-nil)
 
-pub start : (input : List ℕ) (ended : Bool) (out board work : List ℕ) (t : Tally) (e : ℕ) → e ≡ line_end input 0 → Turning input ended (state_of board work t) out board work t out 0 e 0
-start input ended out board work t e d =
-    record { line = line-ends input 0 e (omega arith) d; fits = omega arith; same = refl; left = rw sub-zero (record { used = zero-add _; long = zero-add _; stored = refl; state = refl }) }
+pub start : (input : List ℕ) (ended : Bool) (a : Answering) (e : ℕ) → a.written ≡ 0 → e ≡ line_end input 0 → Turning input ended (state_at a) a.out.now a 0 e
+start input ended a e z d =
+    record { line = line-ends input 0 e (omega arith) d; fits = omega (arith, z); same = refl; left = rw (z, sub-zero) (record { used = zero-add _; long = zero-add _; stored = refl; state = refl }) }
 
-module _ {input : List ℕ} {ended : Bool} {s₀ : State} {out₀ board work : List ℕ} {t : Tally} {out : List ℕ} {at e written : ℕ}
-    (h : Turning input ended s₀ out₀ board work t out at e written) where
+module _ {input : List ℕ} {ended : Bool} {s₀ : State} {out₀ : List ℕ} {a : Answering} {at e : ℕ} (h : Turning input ended s₀ out₀ a at e) where
   -- a line with room for its answer
-  pub turn : {out₁ board₁ work₁ : List ℕ} {end e₁ : ℕ} {t₁ : Tally} → e < length input → reply_room ≤ length out - written
-      → Answered (handle (state_of board work t) (framed (take (e - at) (drop at input)))) out written end t₁ board₁ work₁ out₁ → e₁ ≡ line_end input (e + 1)
-      → Turning input ended s₀ out₀ board₁ work₁ t₁ out₁ (e + 1) e₁ end
-  turn {out₁} {board₁} {work₁} {end} {e₁} {t₁} lt room x d₁ =
+  pub turn : {a₁ : Answering} {e₁ : ℕ} → e < length input → reply_room ≤ length a.out.now - a.written
+      → Answered a (handle (state_at a) (framed (take (e - at) (drop at input)))) a₁ → e₁ ≡ line_end input (e + 1)
+      → Turning input ended s₀ out₀ a₁ (e + 1) e₁
+  turn {a₁} {e₁} lt room x d₁ =
       let d = h.line in
       let l = take (e - at) (drop at input) in
-      let o = handle (state_of board work t) (framed l) in
+      let o = handle (state_at a) (framed l) in
       let place : at + (length l + 1) ≡ e + 1 = omega (arith, line-length input at e d, d.after) in
-      let less : length out₀ - written - length o.text ≡ length out₀ - end = omega (arith, x.end) in
-      let one : todo input ended (state_of board work t) out₀ at written ≡ joined (length l + 1) (framed l) o (todo input ended (state_of board₁ work₁ t₁) out₀ (e + 1) end) =
-      ap (block (length out₀ - written) ended (state_of board work t)) (line-split input at e d lt)
-      ∙ block-line (length out₀ - written) ended (state_of board work t) l (drop (e + 1) input) (line_clean input at e d) (omega (arith, h.same))
+      let less : length out₀ - a.written - length o.text ≡ length out₀ - a₁.written = omega (arith, x.end) in
+      let one : todo input ended out₀ a at ≡ joined (length l + 1) (framed l) o (todo input ended out₀ a₁ (e + 1)) =
+      ap (block (length out₀ - a.written) ended (state_at a)) (line-split input at e d lt)
+      ∙ block-line (length out₀ - a.written) ended (state_at a) l (drop (e + 1) input) (line_clean input at e d) (omega (arith, h.same))
       ∙ ap (λ (k : ℕ). joined (length l + 1) (framed l) o (block k ended o.state (drop (e + 1) input))) less
-      ∙ ap (λ (s₁ : State). joined (length l + 1) (framed l) o (block (length out₀ - end) ended s₁ (drop (e + 1) input))) (sym x.state) in
+      ∙ ap (λ (s₁ : State). joined (length l + 1) (framed l) o (block (length out₀ - a₁.written) ended s₁ (drop (e + 1) input))) (sym x.state) in
       record {
         line = line-ends input (e + 1) e₁ (omega arith) d₁;
-        fits = omega (arith, x.end, h.same, handle-fits (state_of board work t) (framed l));
-        same = ap length x.output ∙ length-sets out written o.text ∙ h.same;
-        left = rw place at (left-joined _ _ _ (framed l) o out₀ out out₁ at (length l + 1) written end one x.end x.output h.left);
+        fits = omega (arith, x.end, h.same, handle-fits (state_at a) (framed l));
+        same = ap length x.output ∙ length-sets a.out.now a.written o.text ∙ h.same;
+        left = rw place at (left-joined _ _ _ (framed l) o out₀ a.out.now a₁.out.now at (length l + 1) a.written a₁.written one x.end x.output h.left);
       }
 
-  -- where the function returns: nothing more is written
-  stays : {r : Block} (consumed n : ℕ) → r ≡ record { consumed = consumed; written = written } → todo input ended (state_of board work t) out₀ at written ≡ record { used = n; lines = []; text = []; state = state_of board work t } → consumed ≡ at + n → consumed ≤ length input
-      → Leaves input ended s₀ out₀ r t board work out
+  -- where the function returns: nothing more is a.written
+  stays : {r : Block} (consumed n : ℕ) → r ≡ record { consumed = consumed; written = a.written } → todo input ended out₀ a at ≡ record { used = n; lines = []; text = []; state = state_at a } → consumed ≡ at + n → consumed ≤ length input
+      → Ends input ended s₀ out₀ r a
   stays consumed n q z u i =
-      subst (λ (r : Block). Leaves input ended s₀ out₀ r t board work out) (sym q)
-      (leave _ _ input ended s₀ out₀ out out board work at written _ t h.left z u (sym (add-zero written)) refl refl i h.fits)
+      subst (λ (r : Block). Ends input ended s₀ out₀ r a) (sym q)
+      (leave _ _ input ended s₀ out₀ a.out.now a at a.written _ h.left z u (sym (add-zero a.written)) refl refl i h.fits)
 
-  here : {r : Block} → r ≡ record { consumed = at; written = written } → todo input ended (state_of board work t) out₀ at written ≡ nothing (state_of board work t) → Leaves input ended s₀ out₀ r t board work out
+  here : {r : Block} → r ≡ record { consumed = at; written = a.written } → todo input ended out₀ a at ≡ nothing (state_at a) → Ends input ended s₀ out₀ r a
   here q z = stays at 0 q z (sym (add-zero at)) (omega (arith, h.line.after, h.line.within))
 
-  at_rest : length input ≤ e → todo input ended (state_of board work t) out₀ at written ≡ ending (length out₀ - written) ended (state_of board work t) (drop at input)
-  at_rest over = block-rest (length out₀ - written) ended (state_of board work t) (drop at input) (rest-clean input at e h.line over)
+  at_rest : length input ≤ e → todo input ended out₀ a at ≡ ending (length out₀ - a.written) ended (state_at a) (drop at input)
+  at_rest over = block-rest (length out₀ - a.written) ended (state_at a) (drop at input) (rest-clean input at e h.line over)
 
-  pub no-room-left : {r : Block} → r ≡ record { consumed = at; written = written } → e < length input → length out - written < reply_room → Leaves input ended s₀ out₀ r t board work out
+  pub no-room-left : {r : Block} → r ≡ record { consumed = at; written = a.written } → e < length input → length a.out.now - a.written < reply_room → Ends input ended s₀ out₀ r a
   no-room-left q lt room =
-      here q (ap (block (length out₀ - written) ended (state_of board work t)) (line-split input at e h.line lt)
-      ∙ block-full (length out₀ - written) ended (state_of board work t) (take (e - at) (drop at input)) (drop (e + 1) input) (line_clean input at e h.line) (omega (arith, h.same)))
+      here q (ap (block (length out₀ - a.written) ended (state_at a)) (line-split input at e h.line lt)
+      ∙ block-full (length out₀ - a.written) ended (state_at a) (take (e - at) (drop at input)) (drop (e + 1) input) (line_clean input at e h.line) (omega (arith, h.same)))
 
-  pub all_done : {r : Block} → r ≡ record { consumed = at; written = written } → length input ≤ e → ended ≡ true → e - at ≡ 0 → Leaves input ended s₀ out₀ r t board work out
+  pub all_done : {r : Block} → r ≡ record { consumed = at; written = a.written } → length input ≤ e → ended ≡ true → e - at ≡ 0 → Ends input ended s₀ out₀ r a
   all_done q over y z = here q (at_rest over ∙ rw y (none_left _ _ (drop at input) (rest-length input at e h.line over ∙ z)))
 
-  pub no-room-last : {r : Block} → r ≡ record { consumed = at; written = written } → length input ≤ e → ended ≡ true → length out - written < reply_room → Leaves input ended s₀ out₀ r t board work out
+  pub no-room-last : {r : Block} → r ≡ record { consumed = at; written = a.written } → length input ≤ e → ended ≡ true → length a.out.now - a.written < reply_room → Ends input ended s₀ out₀ r a
   no-room-last q over y z = here q (at_rest over ∙ rw y (no_room _ _ (drop at input) (omega (arith, h.same))))
 
-  pub waits : {r : Block} {consumed : ℕ} → r ≡ record { consumed = consumed; written = written } → length input ≤ e → ended ≡ false → consumed ≡ at + (e - at - waiting)
-      → Leaves input ended s₀ out₀ r t board work out
+  pub waits : {r : Block} {consumed : ℕ} → r ≡ record { consumed = consumed; written = a.written } → length input ≤ e → ended ≡ false → consumed ≡ at + (e - at - waiting)
+      → Ends input ended s₀ out₀ r a
   waits {consumed = consumed} q over y u =
       stays consumed (e - at - waiting) q (at_rest over ∙ rw (y, rest-length input at e h.line over)) u (omega (arith, h.line.after, h.line.within))
 
-  pub refuses : {r : Block} {out₁ : List ℕ} {end : ℕ} {t' : Tally} → r ≡ record { consumed = e; written = end } → length input ≤ e → ended ≡ true → reply_room ≤ length out - written → (e - at ≡ 0 → ⊥)
-      → Answered (handle (state_of board work t) spoilt) out written end t' board work out₁ → Leaves input ended s₀ out₀ r t' board work out₁
-  refuses {r} {out₁} {end} {t'} q over y room z x =
+  pub refuses : {r : Block} {a₁ : Answering} → r ≡ record { consumed = e; written = a₁.written } → length input ≤ e → ended ≡ true → reply_room ≤ length a.out.now - a.written → (e - at ≡ 0 → ⊥)
+      → Answered a (handle (state_at a) spoilt) a₁ → Ends input ended s₀ out₀ r a₁
+  refuses {r} {a₁} q over y room z x =
       let long = rest-length input at e h.line over in
-      let one : todo input ended (state_of board work t) out₀ at written ≡ refused_rest (e - at) (state_of board work t) =
+      let one : todo input ended out₀ a at ≡ refused_rest (e - at) (state_at a) =
       at_rest over ∙ rw (y, ← long) (one_left _ _ (drop at input) (omega (arith, h.same)) (λ k. z (sym long ∙ k))) in
-      subst (λ (r : Block). Leaves input ended s₀ out₀ r t' board work out₁) (sym q)
-      (leave _ _ input ended s₀ out₀ out out₁ board work at written _ t' h.left one (omega (arith, h.line.after)) x.end x.state x.output h.line.within
-      (omega (arith, x.end, h.same, handle-fits (state_of board work t) spoilt)))
+      subst (λ (r : Block). Ends input ended s₀ out₀ r a₁) (sym q)
+      (leave _ _ input ended s₀ out₀ a.out.now a₁ at a.written _ h.left one (omega (arith, h.line.after)) x.end x.state x.output h.line.within
+      (omega (arith, x.end, h.same, handle-fits (state_at a) spoilt)))
+
+pub ending_at : {input : List ℕ} {ended : Bool} {s₀ : State} {out₀ : List ℕ} {a : Answering} {at e : ℕ} → Turning input ended s₀ out₀ a at (line_end input at) → e ≡ line_end input at → Turning input ended s₀ out₀ a at e
+ending_at {input} {ended} {s₀} {out₀} {a} {at} h q = subst (Turning input ended s₀ out₀ a at) (sym q) h
+
+-- what the references of the block's caller show at the end
+pub handed : {input : List ℕ} {ended : Bool} {s : State} {out b' w' out' : List ℕ} {r : Block} {t' : Tally} (a : Answering)
+    → Ends input ended s out r a → (t' ≡ a.tally.now) × (b' ≡ a.board.now) × (w' ≡ a.work.now) × (out' ≡ a.out.now) → Leaves input ended s out r t' b' w' out'
+handed a h (t, b, w, o) = rw (t, b, w, o) h

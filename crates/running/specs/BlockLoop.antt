@@ -4,17 +4,32 @@ use Rattle.std.specs.Prelude.{ℕ, ◌+◌, ◌-◌, ◌≤◌, ◌<◌, ◌≡�
 use Rattle.std.proofs.lemmas.List.Edits.{sets}
 use Rattle.rules.specs.Text.{line_feed}
 use Rattle.rules.specs.Runs.{State, Out}
-use Rattle.rules.specs.Chunks.{Portion, block}
-use Rattle.answers.specs.declared.Tally.{Tally}
+use Rattle.rules.specs.Chunks.{reply_room, Portion, block}
 use Rattle.answers.specs.Values.{state_of}
+use Rattle.running.specs.declared.Answering.{Answering}
 use Rattle.running.specs.declared.Block.{Block}
 use Rattle.running.specs.BlockPromise.{Leaves}
 
--- what the code left of a line's answer, at position `at` of the room `out`, against what the definitions print and leave
-pub record Answered (o : Out) (out : List ℕ) (at end' : ℕ) (t' : Tally) (board' work' out' : List ℕ) : Type 0 where
-  pub end : end' ≡ at + length o.text
-  pub state : state_of board' work' t' ≡ o.state
-  pub output : out' ≡ sets out at o.text
+abbrev pub state_at : Answering → State
+state_at a = state_of a.board.now a.work.now a.tally.now
+
+-- a line's answer surely has room
+abbrev pub Room : Answering → Type 0
+Room a = a.written + reply_room ≤ length a.out.now
+
+-- what was lent stays the same
+pub record Same (before after : Answering) : Type 0 where
+  pub board : after.board.ghost_name ≡ before.board.ghost_name
+  pub work : after.work.ghost_name ≡ before.work.ghost_name
+  pub tally : after.tally.ghost_name ≡ before.tally.ghost_name
+  pub out : after.out.ghost_name ≡ before.out.ghost_name
+
+-- what the code left of a line's answer, against what the definitions print and leave
+pub record Answered (before : Answering) (o : Out) (after : Answering) : Type 0 where
+  pub same : Same before after
+  pub end : after.written ≡ before.written + length o.text
+  pub state : state_at after ≡ o.state
+  pub output : after.out.now ≡ sets before.out.now before.written o.text
 
 -- r is the first index of s from `from` on that holds a line feed, or s's length
 pub record LineEnd (s : List ℕ) (from r : ℕ) : Type 0 where
@@ -30,17 +45,19 @@ pub record Left (p q : Portion) (out₀ out : List ℕ) (at written : ℕ) : Typ
   pub stored : sets out written p.text ≡ sets out₀ 0 q.text
   pub state : p.state ≡ q.state
 
-abbrev pub todo : List ℕ → Bool → State → List ℕ → ℕ → ℕ → Portion
-todo input ended s out₀ at written = block (length out₀ - written) ended s (drop at input)
+abbrev pub todo : List ℕ → Bool → List ℕ → Answering → ℕ → Portion
+todo input ended out₀ a at = block (length out₀ - a.written) ended (state_at a) (drop at input)
 
--- What holds at the loop's test: the line from index `at` on ends at e, and `written` bytes of the room are used.
-pub record Turning (input : List ℕ) (ended : Bool) (s₀ : State) (out₀ board work : List ℕ) (t : Tally) (out : List ℕ) (at e written : ℕ) : Type 0 where
+-- What holds at the loop's test: the line from index `at` on ends at e.
+pub record Turning (input : List ℕ) (ended : Bool) (s₀ : State) (out₀ : List ℕ) (a : Answering) (at e : ℕ) : Type 0 where
   pub line : LineEnd input at e
-  pub fits : written ≤ length out₀
-  pub same : length out ≡ length out₀
-  pub left : Left (todo input ended (state_of board work t) out₀ at written) (block (length out₀) ended s₀ input) out₀ out at written
+  pub fits : a.written ≤ length out₀
+  pub same : length a.out.now ≡ length out₀
+  pub left : Left (todo input ended out₀ a at) (block (length out₀) ended s₀ input) out₀ a.out.now at a.written
+
+abbrev pub Ends : List ℕ → Bool → State → List ℕ → Block → Answering → Type 0
+Ends input ended s₀ out₀ r a = Leaves input ended s₀ out₀ r a.tally.now a.board.now a.work.now a.out.now
 
 -- No whole line is left: whatever the block began with, r is what it answers.
-abbrev pub Finishes : Bool → ℕ → ℕ → ℕ → Tally → List ℕ → List ℕ → List ℕ → Block → Tally → List ℕ → Type 0
-Finishes ended at e written t board work out r t' out' =
-    (input : List ℕ) (s₀ : State) (out₀ : List ℕ) → Turning input ended s₀ out₀ board work t out at e written → length input ≤ e → Leaves input ended s₀ out₀ r t' board work out'
+abbrev pub Finishes : Bool → ℕ → ℕ → Answering → Block → Answering → Type 0
+Finishes ended at e a r a' = (input : List ℕ) (s₀ : State) (out₀ : List ℕ) → Turning input ended s₀ out₀ a at e → length input ≤ e → Ends input ended s₀ out₀ r a'
