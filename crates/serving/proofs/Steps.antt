@@ -84,6 +84,10 @@ drop-take [] (suc at) end h = ap (drop (suc at)) (take-nil end) ∙ sym (take-ni
 drop-take (b ∷ l) (suc at) zero h = absurd (omega arith)
 drop-take (b ∷ l) (suc at) (suc end) h = drop-take l at end (omega arith) ∙ (let e : end - at ≡ suc end - suc at = omega arith in rw e)
 
+-- few bytes wait after what was served
+pub waits-little : (buf : List ℕ) (ended : Bool) (end at : ℕ) {s s' : State} → end ≤ length buf → Served s (take end buf) ended s' (drop at (take end buf)) → end - at ≤ waiting
+waits-little buf ended end at low served = omega (arith, waits-few ended (take end buf), ap length served.waits, length-drop at (take end buf), length-take-le end buf low)
+
 -- what was held stays, and behind it stands what the read brought; what is left of both is moved to the front
 module _ (buf buf₁ buf₂ : List ℕ) (held end at : ℕ) {s s' : State}
     (more : held ≤ end) (low : end ≤ length buf₁) (stays : take held buf₁ ≡ take held buf)
@@ -111,9 +115,6 @@ module _ (buf buf₁ buf₂ : List ℕ) (held end at : ℕ) {s s' : State}
     ending = (λ e. nil-of-length piece (omega (arith, long, eqb-true end held e)), λ e. eq-eqb end held (omega (arith, long, more, ap length e)));
     served = subst (λ (w : List ℕ). Served s (take held buf ++ piece) (eqb end held) s' w) (sym front) (subst (λ (x : List ℕ). Served s x (eqb end held) s' (drop at (take end buf₁))) all work);
   }
-
-  pub pulls-few : end - at ≤ waiting
-  pulls-few = omega (arith, waits-few (eqb end held) (take end buf₁), ap length work.waits, length-drop at (take end buf₁), length-take-le end buf₁ low)
 
   pub pulls-on : (end ≡ held → ⊥) → Pulled s (take held buf) false s' (take (end - at) buf₂)
   pulls-on n = subst (λ (b : Bool). Pulled s (take held buf) b s' (take (end - at) buf₂)) (ne_eqb end held n) pulls
