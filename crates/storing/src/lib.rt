@@ -7,16 +7,15 @@ ghost use Rattle.std.proofs.lemmas.List.Edits.{sets};
 ghost use Rattle.rules.specs.Layout.{size_word, held_word, base, label_word, row8, slot_record, free_slot};
 ghost use Rattle.words.specs.Carried.{carried};
 
+use std::array;
 use words::{HELD, LABEL, MOST_CHOICES, Order, SIZE, SLOT_WORDS, start_of};
 
-// The row with 0 beyond the count.
+// The row with 0 beyond the count. By a product: with a branch for each choice, or a `fill`, a turn of the search takes longer.
 fn padded(order: &Order) -> [u16; MOST_CHOICES]
     ensures { result ≡ row8 (carried order.now).list }
 {
     let count = order.list().len();
-    let mut row = order.row;
-    row[count..].fill(0);
-    row
+    array::from_fn(|k| order.row[k] * u16::from(k < count))
 }
 
 // The words of a slot that holds the order. Its list is written whole, whichever slots are open to it; it has at most
@@ -33,20 +32,29 @@ fn record_of(order: &Order, label: u16) -> [u16; SLOT_WORDS]
 fn put_record(board: &mut [u16], s: u16, contents: &[u16; SLOT_WORDS])
     ensures { board.new ≡ sets board.old (base s) contents.now }
 {
-    let start = start_of(s);
-    if start + SLOT_WORDS <= board.len() {
-        board[start..start + SLOT_WORDS].copy_from_slice(contents);
-    } else if start < board.len() {
-        let there = board.len() - start;
-        board[start..].copy_from_slice(&contents[..there]);
+    let at = start_of(s);
+    if at + SLOT_WORDS <= board.len() {
+        board[at..at + SLOT_WORDS].copy_from_slice(contents);
+    } else if at < board.len() {
+        let there = board.len() - at;
+        board[at..].copy_from_slice(&contents[..there]);
     }
 }
 
-// The order goes into slot s, which gets this label.
+// The order goes into slot s, which gets this label. Where all the words are there, as in the search, what stands before the row and the row are
+// copied by themselves: a turn of the search with a record copied whole takes twice the time.
 pub fn put_order(board: &mut [u16], s: u16, label: u16, order: &Order)
     ensures { board.new ≡ sets board.old (base s) (slot_record (carried order.now) label) }
 {
-    put_record(board, s, &record_of(order, label));
+    let start = start_of(s);
+    let end = start + SLOT_WORDS;
+    if end <= board.len() {
+        let row = end - MOST_CHOICES;
+        board[start..row].copy_from_slice(&[order.number, label, order.list().len() as u16]);
+        board[row..end].copy_from_slice(&padded(order));
+    } else {
+        put_record(board, s, &record_of(order, label));
+    }
 }
 
 pub fn put_free(board: &mut [u16], s: u16)
