@@ -1,13 +1,7 @@
 -- The numbers of refusals and answers.
-use mathlib.Core.Bool.{Bool, true, false, cond}
-use mathlib.Core.List.{List}
-use mathlib.Core.Path.{◌≡◌, refl}
-use Prim.Native.Nat.{ℕ, ◌≤◌}
-use native.Mathlib.Omega.{arith}
-use lib.Dec.{eqb}
+use Rattle.std.proofs.Common.{◌≡◌, ℕ, ◌≤◌, Bool, true, false, cond, eqb, List, Result, Ok, Err, refl, arith}
 use Rattle.rules.specs.Known.{shown_by}
 use Rattle.answers.specs.Numbers.{code, shown_of, said}
-use Rattle.std.specs.Prelude.{Result, Ok, Err}
 use Rattle.answers.specs.declared.Rejection.{Rejection}
 use Rattle.answers.specs.declared.Rejection.TheVariants.{Refused, Blocked, Undecided}
 use Rattle.answers.specs.declared.Refusal.{Refusal}

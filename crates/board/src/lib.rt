@@ -1,6 +1,7 @@
 // The calls of document 01 on a lent board. `perform` does each of them by what is known of board and work words, and keeps what is known true;
 // a single call finds that out first. Board and work words stay two loans, here and above: a call is lent work words of its own, an opening none, a
-// print may not write the board, and a struct of two `&mut` would be taken apart again in each function.
+// print may not write the board, and a struct of two `&mut` would be taken apart again in each function. Nor is there a struct of a request and what is
+// known: what is known outlives it, lent to the next line's, and the definitions take the two apart.
 #![tactic(auto)]
 
 ghost use Rattle.std.specs.Prelude.{◌≡◌, cond, min, ltb, leb};
@@ -13,7 +14,7 @@ ghost use Rattle.rules.specs.Calls.{
   withdraw as withdraw_call,
   print as print_call,
 };
-ghost use Rattle.rules.specs.Known.{gate_of, few_of, past_gate, known_opened};
+ghost use Rattle.rules.specs.Known.{gate_of, few_of, past_gate, perform_known, known_opened};
 ghost use Rattle.answers.specs.Numbers.{gate_number, said, Opens};
 ghost use Rattle.checking.specs.Known.{known_of};
 ghost use Rattle.board.specs.Requests.{call_for, Counts, LearnsPast, Performs};
@@ -22,7 +23,7 @@ use accepting::take_order;
 use answers::shown_by;
 pub use answers::{Answer, Refusal, Rejection, blocked};
 pub use checking::check;
-use checking::{Known, assess, short_for};
+use checking::{Known, assess, short_for, work_gate};
 use storing::{put_size, zero_front};
 use withdrawing::take_out;
 pub use words::Order;
@@ -38,6 +39,7 @@ pub enum Request {
 }
 
 // n and zeros.
+#[tactic(auto, using(crate::proofs::Opening::opens))]
 fn put_opened(board: &mut [u16], n: u16)
     ensures { board.new ≡ opened n board.old }
 {
@@ -79,7 +81,7 @@ fn few_for(request: &Request, known: Known) -> usize
 }
 
 // An accepted P counts n.
-#[tactic(auto, using(crate::proofs::Performing::prints))]
+#[tactic(auto, unfolding(rules::specs::Known::past_gate))]
 fn slots_counted(board: &[u16]) -> Answer
     ensures { Counts board.now result }
 {
@@ -87,7 +89,7 @@ fn slots_counted(board: &[u16]) -> Answer
 }
 
 // Past the gate, with work words that are cleared: the late checks, and what the call does.
-#[tactic(auto, using(crate::proofs::Performing::opens))]
+#[tactic(auto, unfolding(rules::specs::Known::past_gate))]
 fn past_gate(request: &Request, board: &mut [u16], work: &mut [u16]) -> Answer
     ensures { said result board.new work.new ≡ past_gate (call_for request.now) board.old work.old }
 {
@@ -102,16 +104,6 @@ fn past_gate(request: &Request, board: &mut [u16], work: &mut [u16]) -> Answer
     }
 }
 
-// Check 6, of a board that was opened: `assess` has it of the board that it looks at.
-fn work_gate(len: usize, all: usize) -> Result<(), Refusal>
-    ensures { gate_number result ≡ cond (ltb len all) 6 0 }
-{
-    if len < all {
-        return Err(Refusal::LittleWork);
-    }
-    Ok(())
-}
-
 // What is known where a board of m slots was opened after one of n: of the work words of a larger board nothing was.
 fn known_opened(known: Known, m: u16, n: u16, len: usize) -> Known
     ensures { known_of result ≡ known_opened (known_of known) m n len }
@@ -119,7 +111,7 @@ fn known_opened(known: Known, m: u16, n: u16, len: usize) -> Known
     let all = work_words(m);
     let few = if n < m { all } else { known.few.min(all) };
     Known {
-        gate: work_gate(len, all),
+        gate: work_gate(m, len),
         few,
     }
 }
@@ -138,7 +130,7 @@ fn known_past(known: Known, request: &Request, n: u16, a: Answer, len: usize) ->
 }
 
 // Any call, by what is known, as `step` has it: the gate, the work words, then the call itself; and what is known after it.
-#[tactic(auto, using(crate::proofs::Performing::performing))]
+#[tactic(auto, using(crate::proofs::Performing::gates), unfolding(rules::specs::Known::perform_known, rules::specs::Known::known_after))]
 pub fn perform(request: &Request, board: &mut [u16], work: &mut [u16], known: &mut Known) -> Answer
     ensures { Performs request.now known.old board.old work.old result known.new board.new work.new }
 {
@@ -160,7 +152,7 @@ fn call(request: &Request, board: &mut [u16], work: &mut [u16]) -> Answer
 }
 
 // It is lent no work words: the same two parts as `perform` has for it.
-#[tactic(auto, using(crate::proofs::Performing::opening))]
+#[tactic(auto, using(crate::proofs::Performing::gates), unfolding(rules::specs::Calls::step))]
 pub fn open_board(board: &mut [u16], n: u16) -> Answer
     ensures { Opens n board.old board.new result }
 {
@@ -182,12 +174,19 @@ pub fn withdraw(board: &mut [u16], work: &mut [u16], number: u16) -> Answer
 }
 
 // The board is lent for reading only, so that `perform`, which may write it, cannot be asked: its own parts for a print.
-#[tactic(auto, using(crate::proofs::Performing::printing))]
+#[tactic(auto, using(crate::proofs::Performing::gates), unfolding(rules::specs::Known::perform_known))]
+fn print_known(board: &[u16], work: &mut [u16], known: Known) -> Answer
+    ensures { said result board.now work.new ≡ perform_known (known_of known) print_call board.now work.old }
+{
+    known.gate?;
+    zero_front(work, known.few);
+    slots_counted(board)
+}
+
+#[tactic(auto, using(rules::proofs::Known::performs))]
 pub fn print(board: &[u16], work: &mut [u16]) -> Answer
     ensures { said result board.now work.new ≡ step print_call board.now work.old }
 {
     let known = assess(board, work);
-    known.gate?;
-    zero_front(work, known.few);
-    slots_counted(board)
+    print_known(board, work, known)
 }

@@ -1,10 +1,10 @@
 -- The words of slots, cut out of a board.
 use Rattle.std.proofs.Common.{◌≡◌, ◌∙◌, sym, ap, ℕ, zero, suc, ◌+◌, ◌-◌, ◌*◌, ◌/◌, ◌≤◌, ◌<◌, ◌&&◌, Bool, true, List, [], ◌∷◌, map, length, take, drop, get_or, min, eqb, refl, arith}
-use native.Mathlib.Decide.{dec_lt, dec_le}
+use Rattle.std.proofs.Math.Decide.{dec_lt}
 use Rattle.std.specs.Simd.{first_chunks}
 use Rattle.std.specs.List.{range_with_len}
 use Rattle.std.proofs.lemmas.List.FromFn.{get_or-map-range_with_len, length-map-range_with_len}
-use Rattle.std.proofs.lemmas.List.{take_all, take_min, drop_all, length-drop, drop-drop}
+use Rattle.std.proofs.lemmas.List.{take_min, drop_all, length-drop, drop-drop}
 use Rattle.std.proofs.Math.Seq.{drop-cons}
 use Rattle.std.proofs.Math.Nat.{min_comm}
 use Rattle.std.proofs.Math.ListN.{get_or-eq_default}
@@ -18,7 +18,7 @@ reads-slice w i (suc k) h = ap (take (suc k)) (drop-cons w i 0 (omega arith)) �
 
 -- ---- slot after slot
 
-chunks : (w : List ℕ) (i k : ℕ) → 2 + 11 * (i + k) ≤ length w → first_chunks 11 k (drop (2 + 11 * i) w) ≡ map (λ s. reads w (base s) slot_words) (range_with_len (i + 1) k)
+chunks : (w : List ℕ) (i k : ℕ) → 11 * (i + k) ≤ length w - 2 → first_chunks 11 k (drop (2 + 11 * i) w) ≡ map (λ s. reads w (base s) slot_words) (range_with_len (i + 1) k)
 chunks w i zero h = refl
 chunks w i (suc k) h =
     let here : take 11 (drop (2 + 11 * i) w) ≡ reads w (base (i + 1)) slot_words = reads-slice w (2 + 11 * i) 11 (omega arith) ∙ ap (λ (j : ℕ). reads w j 11) (omega arith) in
@@ -31,31 +31,12 @@ fewer c zero k xs h = refl
 fewer c (suc m) zero xs h = absurd (omega arith)
 fewer c (suc m) (suc k) xs h = ap (λ (l : List (List ℕ)). take c xs ∷ l) (fewer c m k (drop c xs) (omega arith))
 
--- what is left of the words from p on
-there : (w : List ℕ) (p : ℕ) → take (length w - p) (drop p w) ≡ drop p w
-there w p = take_all (length w - p) (drop p w) (omega (arith, length-drop p w))
-
-pub whole_are : (w : List ℕ) (n p m : ℕ) → p ≡ min 2 (length w) → m ≡ min (length (take (length w - p) (drop p w)) / 11) n
-    → take m (first_chunks 11 (length (take (length w - p) (drop p w)) / 11) (take (length w - p) (drop p w))) ≡ whole_slots n w
-whole_are w n p m ep em =
-    ap (λ (l : List ℕ). take m (first_chunks 11 (length l / 11) l)) (there w p) ∙ fewer 11 m (length (drop p w) / 11) (drop p w) (omega (arith, few)) ∙ go (dec_le 2 (length w))
+pub whole_are : (w from : List ℕ) (n m : ℕ) → from ≡ drop 2 w → m ≡ min (length from / 11) n → take m (first_chunks 11 (length from / 11) from) ≡ whole_slots n w
+whole_are w from n m ef em =
+    fewer 11 m (length from / 11) from (omega (arith, em)) ∙ ap (first_chunks 11 m) ef ∙ chunks w 0 m (omega (arith, many)) ∙ ap (λ (k : ℕ). map (λ s. reads w (base s) slot_words) (range_with_len 1 k)) many
   where
-    few : m ≡ min (length (drop p w) / 11) n
-    few = em ∙ ap (λ (l : List ℕ). min (length l / 11) n) (there w p)
-
-    left : length (drop p w) ≡ length w - 2
-    left = omega (arith, length-drop p w)
-
     many : m ≡ whole n w
-    many = few ∙ ap (λ (k : ℕ). min (k / 11) n) left
-
-    go : Dec (2 ≤ length w) → first_chunks 11 m (drop p w) ≡ whole_slots n w
-    go (yes h) =
-        let two : p ≡ 2 = omega arith in
-        ap (λ (j : ℕ). first_chunks 11 m (drop j w)) two ∙ chunks w 0 m (omega (arith, many)) ∙ ap (λ (k : ℕ). map (λ s. reads w (base s) slot_words) (range_with_len 1 k)) many
-    go (no h) =
-        let none : m ≡ 0 = omega (arith, many) in
-        ap (λ (k : ℕ). first_chunks 11 k (drop p w)) none ∙ ap (λ (k : ℕ). map (λ s. reads w (base s) slot_words) (range_with_len 1 k)) (sym none ∙ many)
+    many = omega (arith, em, ap length ef, length-drop 2 w)
 
 -- the number of the slot in a place
 pub number-in : (w : List ℕ) (n i : ℕ) (slots : List (List ℕ)) → slots ≡ whole_slots n w → i < length slots → get_or (get_or slots i []) 0 0 ≡ number_at w (suc i)
@@ -65,13 +46,6 @@ number-in w n i slots e h =
     ap (λ (l : List (List ℕ)). get_or (get_or l i []) 0 0) e ∙ ap (λ (l : List ℕ). get_or l 0 0) (get_or-map-range_with_len words 1 (whole n w) i (suc i) [] lt (omega arith))
 
 -- ---- the words of one slot
-
-drop-min : (a p : ℕ) (w : List ℕ) → p ≡ min a (length w) → drop p w ≡ drop a w
-drop-min a p w e = go (dec_le a (length w))
-  where
-    go : Dec (a ≤ length w) → drop p w ≡ drop a w
-    go (yes h) = let f : p ≡ a = omega arith in ap (λ (j : ℕ). drop j w) f
-    go (no h) = drop_all p w (omega arith) ∙ sym (drop_all a w (omega arith))
 
 zeros-none : (m : ℕ) → zeros (take m []) ≡ true
 zeros-none zero = refl
@@ -89,13 +63,8 @@ zeros-take w a (suc m) = go (dec_lt a (length w)) (zeros-take w (suc a) m)
         ap (λ (l : List ℕ). zeros (take (suc m) l)) (drop_all a w (omega arith)) ∙ λ i. eqb (sym none i) 0 && rest i
 
 -- a word that is not there reads as 0
-pub zeros_there : (w : List ℕ) (a p k m : ℕ) → p ≡ min a (length w) → k ≡ min (length (take (length w - p) (drop p w))) m
-    → zeros (take k (take (length w - p) (drop p w))) ≡ zeros (reads w a m)
-zeros_there w a p k m ep ek =
-    ap (λ (j : ℕ). zeros (take j l)) (ek ∙ min_comm (length l) m) ∙ ap zeros (take_min m l) ∙ ap (λ (x : List ℕ). zeros (take m x)) (there w p ∙ drop-min a p w ep) ∙ zeros-take w a m
-  where
-    l : List ℕ
-    l = take (length w - p) (drop p w)
+pub zeros_there : (w from : List ℕ) (a k m : ℕ) → from ≡ drop a w → k ≡ min (length from) m → zeros (take k from) ≡ zeros (reads w a m)
+zeros_there w from a k m ef ek = ap (λ (j : ℕ). zeros (take j from)) (ek ∙ min_comm (length from) m) ∙ ap zeros (take_min m from) ∙ ap (λ (l : List ℕ). zeros (take m l)) ef ∙ zeros-take w a m
 
 -- ---- how many slots
 

@@ -28,7 +28,7 @@ fn eights_before(slots: &[[u16; SLOT_WORDS]], k: u16) -> usize
 }
 
 // The lowest slot of 1 .. n that holds order k: the one place that looks for an order. What the eights leave is looked through slot by slot,
-// of a board that ends too early too. So many eights as slots of n: the cast loses nothing.
+// of a board that ends too early too. The slots in those eights are at most n: the cast loses nothing.
 pub fn find(board: &[u16], n: u16, k: u16) -> Option<u16>
     ensures { result ≡ found board.now n k }
 {

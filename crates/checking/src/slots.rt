@@ -1,5 +1,4 @@
 // What the check asks of one slot.
-// Board and n stay two arguments: n is any number, as in the definitions, not the board's own. A struct of both proves, but lengthens each contract.
 ghost use Rattle.std.specs.Prelude.{◌≡◌, length};
 ghost use Rattle.rules.specs.Check.{zeros, low_label, held_fine, slot_fine};
 ghost use Rattle.rules.specs.Layout.{slot_words, reads, base};
@@ -8,6 +7,7 @@ ghost use Rattle.checking.specs.Slots.{list_fine, whole, whole_slots};
 use orders::rises;
 use words::{
     HEAD_WORDS, MOST_CHOICES, NO_ORDER, Order, SLOT_WORDS, label_at, number_at, order_at, start_of,
+    words_from,
 };
 
 // Those of the slots 1 .. n that have all their words, the first of which is the number: a walk over them need not look for the board's end at each.
@@ -15,7 +15,7 @@ pub(crate) fn slots_of(board: &[u16], n: u16) -> &[[u16; SLOT_WORDS]]
     ensures words { result.now ≡ whole_slots n board.now }
     ensures many { length result.now ≡ whole n board.now }
 {
-    let (slots, _) = board[HEAD_WORDS.min(board.len())..].as_chunks();
+    let (slots, _) = words_from(board, HEAD_WORDS).as_chunks();
     &slots[..slots.len().min(usize::from(n))]
 }
 
@@ -29,7 +29,7 @@ fn all_zero(words: &[u16]) -> bool
 fn is_blank(board: &[u16], s: u16) -> bool
     ensures { result ≡ zeros (reads board.now (base s) slot_words) }
 {
-    let from = &board[start_of(s).min(board.len())..];
+    let from = words_from(board, start_of(s));
     all_zero(&from[..from.len().min(SLOT_WORDS)])
 }
 
@@ -45,7 +45,7 @@ fn list_fine(n: u16, s: u16, order: &Order) -> bool
         && list.contains(&s)
 }
 
-// The label of slot s is at most 1 more than that of each slot open to its order. (Of slot s itself it is, so no look which slot it is.)
+// The label of slot s is at most 1 more than that of each slot open to its order. (Slot s itself is compared too, and passes.)
 fn labels_low(board: &[u16], s: u16, choices: &[u16]) -> bool
     ensures { result ≡ low_label board.now s choices.now }
 {

@@ -1,4 +1,4 @@
-// Where a line ends.
+// Where a line ends, and how wide a column is.
 #![tactic(auto)]
 
 ghost use Rattle.std.specs.Prelude.{◌≡◌};
@@ -6,7 +6,10 @@ ghost use Rattle.framing.specs.Ends.{feed_from};
 
 use memchr::memchr;
 
-// The index of the first line feed at or after `from`, if there is one. This passes over every byte of a file.
+// "columns of six characters": in the lines that come in, and in the order writer's.
+pub const COLUMN_BYTES: usize = 6;
+
+// The index of the first line feed at or after `from`, if there is one.
 #[tactic(auto, using(crate::proofs::EndLaws::feed_none, crate::proofs::EndLaws::feed_some))]
 pub fn line_end(s: &[u8], from: usize) -> Option<usize>
     ensures { result ≡ feed_from s.now from }

@@ -1,4 +1,6 @@
-// One line: read, performed by what is known, replied, with the day's tally lent; what is known is kept true.
+// One line: read, performed by what is known, replied, with the day's tally lent; what is known is kept true. No struct has these four, though
+// contracts speak of `state_of board work tally`: document 01 lends each by itself, "on one lent board. .. Each call is lent work words of any length and
+// content", "The day's tally is lent to each line's handling and brought up to date", and what is known belongs to a block of lines and not to the caller.
 #![tactic(auto)]
 
 ghost use Rattle.std.specs.Prelude.{◌≡◌, List, ℕ};
@@ -73,6 +75,7 @@ pub fn handle_next(
 }
 
 // A line whose board is looked at first.
+#[tactic(auto, using(crate::proofs::ReadLines::line_same))]
 pub fn handle_line(line: &[u8], board: &mut [u16], work: &mut [u16], tally: &mut Tally) -> Reply
     ensures { handled_of result tally.new board.new work.new ≡ handle_line line.now (state_of board.old work.old tally.old) }
 {

@@ -7,16 +7,16 @@ ghost use Rattle.rules.specs.Calls.{first, on_board, order_checks};
 ghost use Rattle.answers.specs.Numbers.{gate_number};
 
 use answers::Refusal;
-use words::{MOST_CHOICES, Order};
+use words::{MOST_CHOICES, NO_ORDER, Order};
 
 // Each slot of the list is 1 to n.
 fn within(n: u16, list: &[u16]) -> bool
     ensures { result ≡ on_board n list.now }
 {
-    list.iter().all(|&t| 1 <= t && t <= n)
+    list.iter().all(|t| (1..=n).contains(t))
 }
 
-// The list rises strictly, within 1 to n.
+// The list rises strictly, within 1 to n. One walk with the last slot beside it: `is_sorted_by` would leave 1 to n to a second one.
 pub fn rises(n: u16, list: &[u16]) -> bool
     ensures { result ≡ rising n 0 list.now }
 {
@@ -36,7 +36,7 @@ pub fn judge(n: u16, order: &Order) -> Result<(), Refusal>
     ensures { gate_number result
         ≡ first (order_checks n order.now.number order.now.count order.now.row []) }
 {
-    if order.number == 0 {
+    if order.number == NO_ORDER {
         return Err(Refusal::NumberZero);
     }
     let count = usize::from(order.count);

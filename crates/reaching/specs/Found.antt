@@ -1,6 +1,6 @@
 -- Internal: not part of what a reader must believe.
 -- The slots that a walk found, and their marks.
-use Rattle.std.specs.Prelude.{Bool, false, not, ◌&&◌, cond, List, [], ◌∷◌, ◌++◌, ℕ, eqb, leb, get_or}
+use Rattle.std.specs.Prelude.{◌≡◌, Bool, false, not, ◌&&◌, cond, List, [], ◌∷◌, ◌++◌, ℕ, eqb, leb, get_or}
 use Rattle.std.specs.List.{list_any}
 use Rattle.matching.specs.Lists.{filter, member, upward}
 use Rattle.matching.specs.Orders.{Order, open_slots}
@@ -9,6 +9,10 @@ use Rattle.rules.specs.Layout.{is_free}
 -- slot t is marked
 abbrev pub seen : List Bool → ℕ → Bool
 seen marked t = get_or marked t false
+
+-- the marked slots are those of q
+pub record Listed (marked : List Bool) (q : List ℕ) : Type 0 where
+  pub at : (t : ℕ) → seen marked t ≡ member t q
 
 -- the marked slots, in rising order
 abbrev pub seen_slots : ℕ → List Bool → List ℕ

@@ -1,5 +1,6 @@
 -- The column's states read what the document's definitions say. Assumes nothing.
 use Rattle.std.proofs.Common.{◌≡◌, ℕ, ◌+◌, ◌-◌, ◌*◌, true, false, cond, List, [], ◌∷◌, Some, None, eqb, ◌<◌, length, take, drop, length-take, length-drop, refl, ap, ◌∙◌, arith}
+use Rattle.std.proofs.lemmas.Bool.Decides.{nat_tests}
 use Rattle.std.proofs.lemmas.Bool.{eqb-true, ne_eqb}
 use Rattle.matching.specs.Lists.{all}
 use Rattle.rules.specs.InputLines.{is_digit, after_spaces, is_numeral, numeral_from, column_bytes, is_column, column_value}
@@ -11,7 +12,7 @@ use Rattle.reading.specs.Machine.{ended_after, cell_of}
 -- after a number, digits
 number-reads : (v : ℕ) (t : List ℕ) → ended_after (Number v) t ≡ cond (all is_digit t) (Some (numeral_from v t)) None
 number-reads v [] = refl
-number-reads v (b ∷ bs) = either (is_digit b) (λ e. rw e (number-reads (v * 10 + (b - 48)) bs)) (λ e. rw e)
+number-reads v (b ∷ bs) = grind (arith, nat_tests, number-reads (v * 10 + (b - 48)) bs)
 
 zero-reads : (t : List ℕ) → ended_after Zero t ≡ cond (is_numeral (48 ∷ t)) (Some (numeral_from 0 (48 ∷ t))) None
 zero-reads [] = refl

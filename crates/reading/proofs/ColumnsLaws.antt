@@ -1,10 +1,10 @@
 -- Columns one after another: the next one is read, or there the reading stops. Assumes nothing.
-use Rattle.std.proofs.Common.{◌≡◌, ℕ, suc, ◌+◌, ◌-◌, ◌≤◌, true, false, List, [], ◌∷◌, ◌++◌, map, Some, None, length, take, drop, replicate, sym, ap, ◌∙◌, arith, append_assoc, append-nil, ◌<◌, set}
+use Rattle.std.proofs.Common.{◌≡◌, ℕ, suc, ◌+◌, ◌-◌, ◌≤◌, true, List, [], ◌∷◌, ◌++◌, map, Some, None, length, take, drop, replicate, sym, ap, ◌∙◌, arith, append_assoc, append-nil, ◌<◌, set}
+use Rattle.std.proofs.lemmas.Bool.Decides.{nat_tests}
 use Rattle.std.proofs.Math.Seq.{take-append-add}
 use Rattle.std.specs.Option.{is_some}
 use Rattle.std.proofs.lemmas.List.{take_more_set, take_all, take-replicate, drop-replicate}
 use Rattle.rules.specs.InputLines.{column_bytes, is_column, column_value}
-use Rattle.rules.proofs.Cutting.{either}
 use Rattle.reading.specs.Reading.{most_columns, ten_columns}
 use Rattle.reading.specs.Reader.{past_columns}
 use Rattle.reading.specs.Machine.{cell_of, columns_at, gathered}
@@ -12,13 +12,7 @@ use Rattle.reading.specs.Machine.{cell_of, columns_at, gathered}
 -- ---- what a cell says of its column
 
 column-some : (t : List ℕ) (v : ℕ) → cell_of t ≡ Some v → (is_column t ≡ true) × (column_value t ≡ v)
-column-some t v e = either (is_column t) (λ y. (y, let k = rw y at e in cc)) (λ n. absurd (let k = rw n at e in cc))
-
-column-is : (t : List ℕ) → is_some (cell_of t) ≡ true → is_column t ≡ true
-column-is t e = either (is_column t) (λ y. y) (λ n. absurd (let k = rw n at e in cc))
-
-column-none : (t : List ℕ) → cell_of t ≡ None → is_column t ≡ false
-column-none t e = either (is_column t) (λ y. absurd (let k = rw y at e in cc)) (λ n. n)
+column-some t v e = grind (arith, nat_tests)
 
 -- i of n columns were read, and stored in front of what stands behind them
 module _ (s : List ℕ) (p n i : ℕ) (low : i < n) where
@@ -26,10 +20,10 @@ module _ (s : List ℕ) (p n i : ℕ) (low : i < n) where
   left = omega arith
 
   pub past_more : is_some (cell_of (take column_bytes (drop p s))) ≡ true → past_columns s (past_columns s p 1) (n - (i + 1)) ≡ past_columns s p (n - i)
-  past_more cell = rw (left, column-is _ cell)
+  past_more cell = rw left (grind (arith, nat_tests))
 
   pub past_stop : cell_of (take column_bytes (drop p s)) ≡ None → past_columns s p (n - i) ≡ p
-  past_stop cell = rw (left, column-none _ cell)
+  past_stop cell = rw left (grind (arith, nat_tests))
 
   module _ (vs : List ℕ) where
     pub gathered_more : (v : ℕ) → cell_of (take column_bytes (drop p s)) ≡ Some v → i < length vs
@@ -38,7 +32,7 @@ module _ (s : List ℕ) (p n i : ℕ) (low : i < n) where
         rw (take_more_set vs i v low, append_assoc (take i vs) (v ∷ []) (map column_value (columns_at s (past_columns s p 1) (n - (i + 1)))), left, (column-some _ v cell).0, (column-some _ v cell).1)
 
     pub gathered_stop : cell_of (take column_bytes (drop p s)) ≡ None → gathered (take i vs) (columns_at s p (n - i)) ≡ None
-    gathered_stop cell = rw (left, column-none _ cell)
+    gathered_stop cell = rw left (grind (arith, nat_tests))
 
 -- as they are stored
 pub stored-ten : (vs : List ℕ) → length vs ≤ most_columns → vs ++ drop (length vs) (replicate most_columns 0) ≡ ten_columns vs

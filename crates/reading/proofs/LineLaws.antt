@@ -4,13 +4,12 @@ use Rattle.std.proofs.Common.{◌≡◌, ℕ, zero, suc, ◌+◌, ◌-◌, ◌*�
 use Rattle.std.specs.List.{slice_get}
 use Rattle.std.specs.Option.{is_some}
 use Rattle.std.proofs.Math.Seq.{drop-drop}
-use Rattle.std.proofs.Math.Dec.{eqb-suc-suc}
+use Rattle.std.proofs.lemmas.Bool.Decides.{nat_tests}
 use Rattle.std.proofs.lemmas.Bool.{le-leb, eq-eqb, ne_eqb, leb-true, eqb-true, and_parts, and_from, and_left, and_right}
 use Rattle.std.proofs.lemmas.List.{length-map}
 use Rattle.matching.specs.Lists.{all, any}
 use Rattle.rules.specs.InputLines.{column_bytes, is_column, column_value, letter_of, column_count, columns_from, allowed, well_formed, values, line_refusal}
 use Rattle.rules.specs.Letters.{Letter, letter_s, letter_a, letter_w, letter_p, letter_x, letter_named}
-use Rattle.rules.proofs.Cutting.{either}
 use Rattle.answers.specs.declared.Refusal.TheVariants.{Malformed, TooLarge}
 use Rattle.reading.specs.declared.Kind.{Kind}
 use Rattle.reading.specs.Reading.{kind_of, class_of, ten_columns, line_read, line_of}
@@ -35,26 +34,17 @@ line-fine l kind h g k = rw (h, g, k)
 -- ---- tests
 
 eqb-more : (a b : ℕ) → eqb (1 + a) (1 + b) ≡ eqb a b
-eqb-more a b = let m : 1 + a ≡ suc a = omega arith in let n : 1 + b ≡ suc b = omega arith in rw (m, n) (eqb-suc-suc a b)
+eqb-more a b = grind (arith, nat_tests)
 
 -- ---- the letters
 
 -- a letter that may have so many columns is known, and they are at most ten
-allowed-known : (x : Letter) (c : ℕ) → allowed x c ≡ true → kind_of x ≡ None → ⊥
+pub allowed-known : (x : Letter) (c : ℕ) → allowed x c ≡ true → kind_of x ≡ None → ⊥
 allowed-known letter_s c h e = cc
 allowed-known letter_a c h e = cc
 allowed-known letter_w c h e = cc
 allowed-known letter_p c h e = cc
 allowed-known letter_x c h e = cc
-
-class-none : (x : Letter) (c : ℕ) → class_of x c ≡ None → allowed x c ≡ false
-class-none x c e = either (allowed x c) (λ a. absurd (allowed-known x c a (let k = rw a at e in k))) (λ n. n)
-
-class-some : (x : Letter) (c : ℕ) → is_some (class_of x c) ≡ true → allowed x c ≡ true
-class-some x c e = either (allowed x c) (λ a. a) (λ n. absurd (let k = rw n at e in cc))
-
-class-kind : (x : Letter) (c : ℕ) (kind : Kind) → class_of x c ≡ Some kind → kind_of x ≡ Some kind
-class-kind x c kind e = either (allowed x c) (λ a. let k = rw a at e in k) (λ n. absurd (let k = rw n at e in cc))
 
 allowed-few : (x : Letter) (c : ℕ) → allowed x c ≡ true → c ≤ 10
 allowed-few letter_s c h = omega (arith, eqb-true c 1 h)
@@ -62,20 +52,6 @@ allowed-few letter_a c h = leb-true c 10 (and_parts (leb 1 c) (leb c 10) h).1
 allowed-few letter_w c h = omega (arith, eqb-true c 1 h)
 allowed-few letter_p c h = omega (arith, eqb-true c 0 h)
 allowed-few letter_x c h = absurd cc
-
--- ---- what was read
-
-gathered-none : (ts : List (List ℕ)) → gathered [] ts ≡ None → all is_column ts ≡ false
-gathered-none ts e = either (all is_column ts) (λ a. absurd (let k = rw a at e in cc)) (λ n. n)
-
-gathered-some : (ts : List (List ℕ)) (vs : List ℕ) → gathered [] ts ≡ Some vs → (all is_column ts ≡ true) × (ten_columns (map column_value ts) ≡ vs)
-gathered-some ts vs e = either (all is_column ts) (λ a. (a, let k = rw a at e in cc)) (λ n. absurd (let k = rw n at e in cc))
-
-narrowed-none : (vs : List ℕ) → narrowed vs ≡ None → any (ltb 65535) vs ≡ true
-narrowed-none vs e = either (any (ltb 65535) vs) (λ a. a) (λ n. absurd (let k = rw n at e in cc))
-
-narrowed-some : (vs ws : List ℕ) → narrowed vs ≡ Some ws → (any (ltb 65535) vs ≡ false) × (vs ≡ ws)
-narrowed-some vs ws e = either (any (ltb 65535) vs) (λ a. absurd (let k = rw a at e in cc)) (λ n. (n, let k = rw n at e in cc))
 
 -- ---- the columns from a position on are the line's
 
@@ -141,7 +117,7 @@ module _ (x : ℕ) (s : List ℕ) (at left : ℕ) (measured : left ≡ length s 
 
   module _ (h : class_of (letter_named x) count ≡ None) where
     unknown : readable x left ≡ false
-    unknown = and_right _ _ (class-none (letter_named x) count h)
+    unknown = let none : allowed (letter_named x) count ≡ false = grind (arith, nat_tests, allowed-known (letter_named x) count) in and_right _ _ none
 
     pub unknown_line : line_of line ≡ Err Malformed
     unknown_line = unread-line unknown
@@ -153,7 +129,7 @@ module _ (x : ℕ) (s : List ℕ) (at left : ℕ) (measured : left ≡ length s 
 
   module _ (even : left % 6 ≡ 0) (h : is_some (class_of (letter_named x) count) ≡ true) where
     known : allowed (letter_named x) count ≡ true
-    known = class-some (letter_named x) count h
+    known = grind (arith, nat_tests)
 
     few : count ≤ 10
     few = allowed-few (letter_named x) count known
@@ -169,26 +145,27 @@ module _ (x : ℕ) (s : List ℕ) (at left : ℕ) (measured : left ≡ length s 
     known_at = rw (← measured, read)
 
     pub spoilt_line : gathered [] (columns_at s at count) ≡ None → line_of line ≡ Err Malformed
-    spoilt_line e = line-malformed line (formed ∙ gathered-none _ e)
+    spoilt_line e = line-malformed line (grind (arith, nat_tests, formed))
 
     module _ (vs : List ℕ) (g : gathered [] (columns_at s at count) ≡ Some vs) where
       whole : well_formed line ≡ true
-      whole = formed ∙ (gathered-some _ vs g).0
+      whole = grind (arith, nat_tests, formed)
 
       ten : ten_columns (values line) ≡ vs
-      ten = ap ten_columns values-are ∙ (gathered-some _ vs g).1
+      ten = grind (arith, nat_tests, values-are)
 
       large-is : any (ltb 65535) vs ≡ any (ltb 65535) (values line)
       large-is = ap (any (ltb 65535)) (sym ten) ∙ any-ten (values line) (rw values-are (simp (length-map, length-columns_at) few))
 
       pub large_line : narrowed vs ≡ None → line_of line ≡ Err TooLarge
-      large_line e = line-large line whole (sym large-is ∙ narrowed-none vs e)
+      large_line e = line-large line whole (grind (arith, nat_tests, large-is))
 
       pub fine_line : (kind : Kind) (ws : List ℕ) → class_of (letter_named x) count ≡ Some kind → narrowed vs ≡ Some ws → line_of line ≡ Ok (record { kind = kind; count = count; columns = ws })
       fine_line kind ws k e =
-          let n = narrowed-some vs ws e in
-          line-fine line kind whole (sym large-is ∙ n.0) (class-kind (letter_named x) count kind k)
-          ∙ ap₂ (λ (m : ℕ) (us : List ℕ). Ok (record { kind = kind; count = m; columns = us })) count-is (ten ∙ n.1)
+          let small : any (ltb 65535) (values line) ≡ false = grind (arith, nat_tests, large-is) in
+          let named : kind_of (letter_named x) ≡ Some kind = grind (arith, nat_tests) in
+          let same : vs ≡ ws = grind (arith, nat_tests) in
+          line-fine line kind whole small named ∙ ap₂ (λ (m : ℕ) (us : List ℕ). Ok (record { kind = kind; count = m; columns = us })) count-is (ten ∙ same)
 
 -- ---- a line without a letter
 pub empty_line : (l : List ℕ) → slice_get l 0 ≡ None → line_of l ≡ Err Malformed

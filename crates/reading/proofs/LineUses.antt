@@ -1,9 +1,9 @@
 -- What a caller of `read_line` gets from its line. Assumes nothing.
-use Rattle.std.proofs.Common.{◌≡◌, ℕ, zero, suc, ◌+◌, ◌-◌, ◌≤◌, Bool, true, false, not, cond, List, [], ◌∷◌, ◌++◌, Some, Ok, Err, eqb, ltb, leb, length, take, drop, get_or, replicate, min, refl, sym, ap, subst, ◌∙◌, arith, take-take}
+use Rattle.std.proofs.Common.{◌≡◌, ℕ, zero, suc, ◌+◌, ◌-◌, ◌≤◌, true, List, [], ◌∷◌, ◌++◌, Some, Ok, Err, eqb, leb, length, take, drop, get_or, replicate, min, refl, sym, ap, subst, ◌∙◌, arith, take-take}
 use Rattle.std.specs.Option.{ok_or, option_map}
+use Rattle.std.proofs.lemmas.Bool.Decides.{nat_tests}
 use Rattle.std.proofs.lemmas.Bool.{leb-true, eqb-true, eqb-false, and_parts}
 use Rattle.std.proofs.lemmas.List.{length-map, take-replicate, get_or-take, get_or-drop}
-use Rattle.matching.specs.Lists.{any}
 use Rattle.rules.specs.Layout.{most_choices, reads, row8}
 use Rattle.rules.specs.InputLines.{column_value, letter_of, column_count, columns_from, most_bytes, allowed, well_formed, values, line_refusal}
 use Rattle.rules.specs.Letters.{Letter, letter_s, letter_a, letter_w, letter_p, letter_x}
@@ -13,6 +13,7 @@ use Rattle.answers.specs.Numbers.{code}
 use Rattle.answers.specs.declared.Refusal.{Refusal}
 use Rattle.answers.specs.declared.Refusal.TheVariants.{Malformed}
 use Rattle.reading.specs.declared.Kind.{Kind}
+use Rattle.reading.proofs.LineLaws.{allowed-known}
 use Rattle.reading.specs.declared.Kind.TheVariants.{Open, Accept, Withdraw, Print}
 use Rattle.reading.specs.declared.Line.{Line}
 use Rattle.reading.specs.Reading.{kind_letter, kind_of, refused_as, most_columns, ten_columns, line_read, line_of, line_order}
@@ -21,11 +22,7 @@ use Rattle.reading.specs.Reading.{kind_letter, kind_of, refused_as, most_columns
 
 fine-line : (l : List ℕ) → line_refusal l ≡ 0 → well_formed l ≡ true
 unfolding line_refusal
-fine-line l h = cases (well_formed l) _ h
-  where
-    cases : (t : Bool) (n : ℕ) → cond (not t) 1 n ≡ 0 → t ≡ true
-    cases true n h = refl
-    cases false n h = absurd (omega arith)
+fine-line l h = grind (arith, nat_tests)
 
 module _ (l : List ℕ) (h : line_refusal l ≡ 0) where
   form : (leb (length l) most_bytes ≡ true) × (allowed (letter_of l) (column_count l) ≡ true)
@@ -103,25 +100,13 @@ reads-as l line e = either (eqb (line_refusal l) 0) (λ z. taken (eqb-true (line
 
 refusals : (l : List ℕ) → line_refusal l ≤ 2
 unfolding line_refusal
-refusals l = cases (not (well_formed l)) (any (ltb 65535) (values l))
-  where
-    cases : (a b : Bool) → cond a 1 (cond b 2 0) ≤ 2
-    cases true b = omega arith
-    cases false true = omega arith
-    cases false false = omega arith
+refusals l = grind (arith, nat_tests)
 
 numbered : (n : ℕ) → n ≤ 2 → (n ≡ 0 → ⊥) → code (refused_as n) ≡ n
-numbered zero h some = absurd (some refl)
-numbered (suc zero) h some = refl
-numbered (suc (suc zero)) h some = refl
-numbered (suc (suc (suc n))) h some = absurd (omega arith)
+numbered n h some = grind (arith, nat_tests)
 
 known-letter : (x : Letter) (c : ℕ) (l : List ℕ) (why : Refusal) → allowed x c ≡ true → ok_or (option_map (line_read l) (kind_of x)) Malformed ≡ Err why → ⊥
-known-letter letter_s c l why a e = cc
-known-letter letter_a c l why a e = cc
-known-letter letter_w c l why a e = cc
-known-letter letter_p c l why a e = cc
-known-letter letter_x c l why a e = cc
+known-letter x c l why a e = grind (arith, allowed-known x c a)
 
 -- the refusal of a line that was not read is the document's
 pub refused-as : (l : List ℕ) (why : Refusal) → line_of l ≡ Err why → line_refusal l ≡ code why

@@ -5,13 +5,12 @@ ghost use Rattle.std.specs.Prelude.{◌≡◌, [], ◌∷◌, ◌≤◌, drop, s
 ghost use Rattle.rules.specs.InputLines.{column_bytes};
 ghost use Rattle.rules.specs.Letters.{byte_of, letter_named};
 ghost use Rattle.reading.specs.Reading.{kind_letter, class_of, line_of, line_order, most_columns};
-ghost use Rattle.reading.specs.Reader.{after_letter, past_columns, after_columns};
+ghost use Rattle.reading.specs.Reader.{after_letter, past_columns, after_columns, Moves};
 ghost use Rattle.reading.specs.Machine.{step_of, held_by, ended, cell_of, columns_at, gathered, narrowed};
 
 use answers::Refusal;
+use framing::COLUMN_BYTES;
 use words::Order;
-
-const COLUMN_BYTES: usize = 6;
 
 const MOST_COLUMNS: usize = 10;
 
@@ -24,7 +23,8 @@ pub enum Kind {
 }
 
 impl Kind {
-    // Each letter has its own allowed count of columns.
+    // "Each letter has its own allowed count of columns". Document 01 names the form: "match on the letter byte with count ranges, each case a line kind or
+    // refusal 1".
     #[tactic(auto, unfolding(rules::specs::Letters::letter_named))]
     fn of(letter: u8, count: usize) -> Option<Kind>
         ensures { result ≡ class_of (letter_named letter) count }
@@ -38,7 +38,7 @@ impl Kind {
         }
     }
 
-    // The letter of the line's answer.
+    // The letter of the line's answer, as document 01 names it.
     pub fn letter(self) -> u8
         ensures { result ≡ byte_of (kind_letter self) }
     {
@@ -52,7 +52,8 @@ impl Kind {
 }
 
 // A line that is read: its columns as ten numbers and their count, 0 for each that it does not have. Its numbers are those of the line, also where a
-// call could not carry them, as a ninth slot.
+// call could not carry them, as a ninth slot. Kind and columns stand apart, and are no enum with
+// numbers: three of the four kinds answer with the first column. An array with its count, and no ArrayVec: a Line is copied, and an ArrayVec is not Copy.
 #[derive(Clone, Copy, Debug, PartialEq, Eq)]
 pub struct Line {
     pub kind: Kind,
@@ -76,7 +77,8 @@ impl Line {
     }
 }
 
-// How far the reading of a column has come.
+// How far the reading of a column has come. No `str::parse`: it takes a plus sign and leading zeros, and a column is "a decimal number without leading zeros
+// (a lone 0 is allowed)".
 #[derive(Clone, Copy)]
 enum State {
     Blank,
@@ -122,7 +124,8 @@ fn column_value(column: &[u8; COLUMN_BYTES]) -> Option<u32>
     state.value()
 }
 
-// The numbers as words, where none is above 65,535.
+// The numbers as words, where none is above 65,535. `values.try_map(u16::try_from).ok()` proves too, but the program takes a fifth longer on the load
+// refill with it, 0.149 s and not 0.124: each number passes through two arrays of slots. After a zip with `iter_mut` nothing would be known of the words.
 #[tactic(auto, using(crate::proofs::NumberLaws::narrows))]
 fn narrowed(values: &[u32; MOST_COLUMNS]) -> Option<[u16; MOST_COLUMNS]>
     ensures { result ≡ narrowed values.now }
@@ -134,7 +137,8 @@ fn narrowed(values: &[u32; MOST_COLUMNS]) -> Option<[u16; MOST_COLUMNS]>
     Some(words)
 }
 
-// A line's bytes, and how far the reading has come.
+// "The line reader borrows the line and remembers how far it has come." Document 01 names the form: "struct with a reference to the line's bytes and a
+// position".
 #[derive(Drop)]
 struct LineReader<'a> {
     line: &'a [u8],
@@ -145,8 +149,7 @@ impl<'a> LineReader<'a> {
     // The byte where the reader stands; it moves past it.
     fn take_letter(&mut self) -> Option<u8>
         ensures letter { result ≡ slice_get self.old.line.now self.old.at }
-        ensures line { self.new.line ≡ self.old.line }
-        ensures moved { self.new.at ≡ after_letter self.old.line.now self.old.at }
+        ensures moved { Moves self.old self.new (after_letter self.old.line.now self.old.at) }
     {
         let letter = *self.line.get(self.at)?;
         self.at += 1;
@@ -157,8 +160,7 @@ impl<'a> LineReader<'a> {
     #[tactic(auto, using(crate::proofs::ColumnLaws::column_short))]
     fn take_column(&mut self) -> Option<u32>
         ensures value { result ≡ cell_of (take column_bytes (drop self.old.at self.old.line.now)) }
-        ensures line { self.new.line ≡ self.old.line }
-        ensures moved { self.new.at ≡ past_columns self.old.line.now self.old.at 1 }
+        ensures moved { Moves self.old self.new (past_columns self.old.line.now self.old.at 1) }
     {
         let column = self.line.get(self.at..)?.first_chunk()?;
         let value = column_value(column)?;
@@ -171,8 +173,7 @@ impl<'a> LineReader<'a> {
     fn take_values(&mut self, count: usize) -> Option<[u32; MOST_COLUMNS]>
         requires { count ≤ most_columns }
         ensures values { result ≡ gathered [] (columns_at self.old.line.now self.old.at count) }
-        ensures line { self.new.line ≡ self.old.line }
-        ensures moved { self.new.at ≡ past_columns self.old.line.now self.old.at count }
+        ensures moved { Moves self.old self.new (past_columns self.old.line.now self.old.at count) }
     {
         let mut values = [0; MOST_COLUMNS];
         for value in &mut values[..count] {
@@ -186,8 +187,7 @@ impl<'a> LineReader<'a> {
     #[tactic(auto, using(crate::proofs::LineLaws::lines))]
     fn take_columns(&mut self, letter: u8) -> Result<Line, Refusal>
         ensures line { result ≡ line_of (letter ∷ drop self.old.at self.old.line.now) }
-        ensures same { self.new.line ≡ self.old.line }
-        ensures moved { self.new.at ≡ after_columns letter self.old.line.now self.old.at }
+        ensures moved { Moves self.old self.new (after_columns letter self.old.line.now self.old.at) }
     {
         let left = self.line.len().saturating_sub(self.at);
         if !left.is_multiple_of(COLUMN_BYTES) {

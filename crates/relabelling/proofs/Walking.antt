@@ -1,6 +1,5 @@
 -- The labels of the held slots, from slot n down: slot by slot, and by where a slot's words begin, so many in a run.
-use Rattle.std.proofs.Common.{◌≡◌, ℕ, zero, suc, ◌+◌, ◌-◌, ◌*◌, ◌/◌, ◌≤◌, ◌<◌, Bool, true, false, cond, List, set, inl, inr, refl, sym, ap, ◌∙◌, arith}
-use lib.Dec.{eqb}
+use Rattle.std.proofs.Common.{◌≡◌, ℕ, zero, suc, ◌+◌, ◌-◌, ◌*◌, ◌≤◌, ◌<◌, Bool, true, false, cond, List, set, inl, inr, refl, sym, ap, ◌∙◌, eqb, arith}
 use Rattle.std.proofs.Math.Seq.{set-get_or}
 use Rattle.matching.specs.Lists.{slots}
 use Rattle.rules.specs.Calls.{relabelled, relabelled_all}
@@ -16,17 +15,6 @@ labels_next w s h =
 pub labels-done : (w : List ℕ) (s : ℕ) → s ≤ 0 → relabelled_all w (slots s) ≡ w
 unfolding relabelled_all
 labels-done w s h = let e : s ≡ 0 = omega arith in ap (λ (j : ℕ). relabelled_all w (slots j)) e
-
--- the label, and one more where the slot is held
-abbrev raised : ℕ → ℕ → ℕ
-raised number label = (label * 65536 + number + 65535) / 65536
-
-pub settled-free : (number label : ℕ) → raised number label ≡ 0 → Settled number label
-settled-free number label e = inl (omega (arith, e))
-
-pub settled-held : (number label : ℕ) → number < 65536 → raised number label ≡ 2 → Settled number label
-settled-held zero label h e = inl refl
-settled-held (suc k) label h e = inr (omega (arith, h, e))
 
 pub stays : (w : List ℕ) (at : ℕ) → Settled (word w at) (word w (at + 1)) → relabelled_from w at ≡ w
 stays w at (inl e) = rw e

@@ -1,7 +1,8 @@
 -- Internal: not part of what a reader must believe.
 -- Where the block's loop stands, what a line's answer leaves, and what the block's end does.
-use Rattle.std.specs.Prelude.{ℕ, ◌+◌, ◌-◌, ◌≤◌, ◌<◌, ◌≡◌, Bool, List, length, get_or, drop}
+use Rattle.std.specs.Prelude.{ℕ, ◌+◌, ◌-◌, ◌≤◌, ◌<◌, ◌≡◌, Bool, List, [], length, get_or, drop}
 use Rattle.std.proofs.lemmas.List.Edits.{sets}
+use Rattle.memchr.specs.Find.{is_byte, places_between}
 use Rattle.rules.specs.Text.{line_feed}
 use Rattle.rules.specs.Runs.{State, Out}
 use Rattle.rules.specs.Chunks.{reply_room, Portion, block}
@@ -38,6 +39,10 @@ pub record LineEnd (s : List ℕ) (from r : ℕ) : Type 0 where
   pub found : r < length s → get_or s r 0 ≡ line_feed
   pub none : (k : ℕ) → k < r → from ≤ k → get_or s k 0 ≡ line_feed → ⊥
 
+-- the line feeds of s from `from` on
+abbrev pub feeds : List ℕ → ℕ → List ℕ
+feeds s from = places_between (is_byte line_feed) s from (length s)
+
 -- p is what is left to do, q the whole
 pub record Left (p q : Portion) (out₀ out : List ℕ) (at written : ℕ) : Type 0 where
   pub used : at + p.used ≡ q.used
@@ -48,9 +53,10 @@ pub record Left (p q : Portion) (out₀ out : List ℕ) (at written : ℕ) : Typ
 abbrev pub todo : List ℕ → Bool → List ℕ → Answering → ℕ → Portion
 todo input ended out₀ a at = block (length out₀ - a.written) ended (state_at a) (drop at input)
 
--- What holds at the loop's test: the line from index `at` on ends at e.
-pub record Turning (input : List ℕ) (ended : Bool) (s₀ : State) (out₀ : List ℕ) (a : Answering) (at e : ℕ) : Type 0 where
-  pub line : LineEnd input at e
+-- What holds before each look for a line feed: `rest` are those of the input from index `at` on, and the next line ends at the first of them.
+pub record Turning (input : List ℕ) (ended : Bool) (s₀ : State) (out₀ : List ℕ) (a : Answering) (at : ℕ) (rest : List ℕ) : Type 0 where
+  pub ahead : feeds input at ≡ rest
+  pub line : LineEnd input at (get_or rest 0 (length input))
   pub fits : a.written ≤ length out₀
   pub same : length a.out.now ≡ length out₀
   pub left : Left (todo input ended out₀ a at) (block (length out₀) ended s₀ input) out₀ a.out.now at a.written
@@ -60,4 +66,4 @@ Ends input ended s₀ out₀ r a = Leaves input ended s₀ out₀ r a.tally.now 
 
 -- No whole line is left: whatever the block began with, r is what it answers.
 abbrev pub Finishes : Bool → ℕ → ℕ → Answering → Block → Answering → Type 0
-Finishes ended at e a r a' = (input : List ℕ) (s₀ : State) (out₀ : List ℕ) → Turning input ended s₀ out₀ a at e → length input ≤ e → Ends input ended s₀ out₀ r a'
+Finishes ended at e a r a' = (input : List ℕ) (s₀ : State) (out₀ : List ℕ) → Turning input ended s₀ out₀ a at [] → length input ≡ e → Ends input ended s₀ out₀ r a'

@@ -9,6 +9,18 @@ ghost use Rattle.serving.specs.Serving.{Ran};
 use serving::serve;
 use std::io::{Read, Write};
 
+// Document 01 names the form, [0u16; 11266]: "A board needs 2 + 11n words, for 1,024 slots 11,266 words."
+const BOARD_WORDS: usize = 11266;
+
+// "Work words: 13n + 4." Written out as the board's are.
+const WORK_WORDS: usize = 13316;
+
+// So many bytes are read at once.
+const READ_BYTES: usize = 65536;
+
+// Each block checks the board once: the room holds seven of the longest answers, so that this is spread over many lines.
+const ROOM_BYTES: usize = 262144;
+
 // The run from document 01's start state on.
 fn run<R: Read, W: Write>(
     input: &mut R,
@@ -24,14 +36,13 @@ fn run<R: Read, W: Write>(
     serve(input, output, buf, board, work, out);
 }
 
-// Each block checks the board once: the room holds seven of the longest answers, so that this is spread over many lines.
 fn main(rt: HostRuntime) {
     let mut input = rt.stdin();
     let mut output = rt.stdout();
-    let mut board = [0u16; 11266];
-    let mut work = [0u16; 13316];
-    let mut buf = [0u8; 65536];
-    let mut out = [0u8; 262144];
+    let mut board = [0u16; BOARD_WORDS];
+    let mut work = [0u16; WORK_WORDS];
+    let mut buf = [0u8; READ_BYTES];
+    let mut out = [0u8; ROOM_BYTES];
     run(
         &mut input,
         &mut output,

@@ -28,7 +28,7 @@ fn record_of(order: &Order, label: u16) -> [u16; SLOT_WORDS]
     [order.number, label, count, a, b, c, d, e, f, g, h]
 }
 
-// The words of slot s become these.
+// The words of slot s become these. Cut by indices here and below: after the loan that a slice's `get_mut` gives, the check knows its length alone.
 fn put_record(board: &mut [u16], s: u16, contents: &[u16; SLOT_WORDS])
     ensures { board.new ≡ sets board.old (base s) contents.now }
 {
@@ -42,7 +42,7 @@ fn put_record(board: &mut [u16], s: u16, contents: &[u16; SLOT_WORDS])
 }
 
 // The order goes into slot s, which gets this label. Where all the words are there, as in the search, what stands before the row and the row are
-// copied by themselves: a turn of the search with a record copied whole takes twice the time.
+// copied by themselves: a turn of the search with a record copied whole takes twice the time. (At most eight: the cast loses nothing.)
 pub fn put_order(board: &mut [u16], s: u16, label: u16, order: &Order)
     ensures { board.new ≡ sets board.old (base s) (slot_record (carried order.now) label) }
 {

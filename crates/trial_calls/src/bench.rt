@@ -1,17 +1,81 @@
 // The words that are lent, the calls, and the comparison of what they answer and leave with what the script says.
-use crate::script::number;
 use answers::{count_of, refusal_of};
 use board::{Answer, Request, blocked, check};
 use std::io;
 use trial_kit::{
-    BOARD, Tally, WORK, ask, board_size, fill_marks, has_marks, is_cleared, slot_start,
+    BOARD, Tally, WORK, ask, board_size, fill_marks, has_marks, is_cleared, slot_start, word_at,
 };
 
-// How many board words and work words are lent.
+// The script has refusals by their numbers, as the table of refusals: written out and not the library's own, so that a wrong one there shows.
+const BLOCKED: u16 = 12;
+
+// What a call must answer: the refusal, or 0; the count; and the slots of a list that is blocked.
+#[derive(Clone, Copy)]
+pub struct Expected<'a> {
+    refusal: u16,
+    count: u16,
+    slots: &'a [u16],
+}
+
+impl Expected<'_> {
+    pub fn of(numbers: &[u16]) -> Expected<'_> {
+        Expected {
+            refusal: word_at(numbers, 0),
+            count: word_at(numbers, 1),
+            slots: numbers.get(2..).unwrap_or(&[]),
+        }
+    }
+
+    // What is wrong with the answer, by a letter: the refusal or the count.
+    fn answer_fault(&self, answer: Answer) -> Option<char> {
+        if refusal_of(answer) != self.refusal {
+            Some('r')
+        } else if count_of(answer) != u64::from(self.count) {
+            Some('c')
+        } else {
+            None
+        }
+    }
+
+    // The work words of a board of n slots: unaltered at 3 to 6; else zero, after the blocked slots; and what is beyond their size as it was.
+    fn leaves(&self, work: &[u16], n: u16) -> bool {
+        match self.refusal {
+            3..=6 => has_marks(work, 0),
+            BLOCKED => is_cleared(work, n, usize::from(self.count)),
+            _ => is_cleared(work, n, 0),
+        }
+    }
+
+    // The list of blocked slots is right, where there is one.
+    fn shows(&self, work: &[u16]) -> bool {
+        self.refusal != BLOCKED || blocked(work, usize::from(self.count)) == self.slots
+    }
+
+    fn work_fault(&self, work: &[u16], n: u16) -> Option<char> {
+        if !self.leaves(work, n) {
+            Some('w')
+        } else if !self.shows(work) {
+            Some('l')
+        } else {
+            None
+        }
+    }
+}
+
+// How many board words and work words are lent: not all that there are, since those behind them must keep their marks.
 #[derive(Clone, Copy)]
 struct Lent {
     board: u16,
     work: u16,
+}
+
+impl Lent {
+    // The call, of the words that are lent.
+    fn ask(self, request: &Request, board: &mut [u16], work: &mut [u16]) -> Answer {
+        let board_lent = usize::from(self.board).min(board.len());
+        let work_lent = usize::from(self.work).min(work.len());
+        ask(request, &mut board[..board_lent], &mut work[..work_lent])
+    }
 }
 
 #[derive(Drop)]
@@ -36,51 +100,6 @@ fn front(words: &[u16], lent: u16) -> &[u16] {
     &words[..usize::from(lent).min(words.len())]
 }
 
-// The call, of the words that are lent.
-fn ask_lent(request: &Request, lent: Lent, board: &mut [u16], work: &mut [u16]) -> Answer {
-    let board_lent = usize::from(lent.board).min(board.len());
-    let work_lent = usize::from(lent.work).min(work.len());
-    ask(request, &mut board[..board_lent], &mut work[..work_lent])
-}
-
-// What is wrong with the answer, by a letter: the refusal or the count. The script has their numbers, as the table of refusals.
-fn answer_fault(answer: Answer, expected: &[u16]) -> Option<char> {
-    if refusal_of(answer) != number(expected, 0) {
-        Some('r')
-    } else if count_of(answer) != u64::from(number(expected, 1)) {
-        Some('c')
-    } else {
-        None
-    }
-}
-
-// The work words of a board of n slots: unaltered at 3 to 6; else zero, after the blocked slots at 12; and what is beyond their size as it was.
-fn work_right(work: &[u16], n: u16, expected: &[u16]) -> bool {
-    match number(expected, 0) {
-        3..=6 => has_marks(work, 0),
-        12 => is_cleared(work, n, usize::from(number(expected, 1))),
-        _ => is_cleared(work, n, 0),
-    }
-}
-
-// At 12 the list is the expected blocked slots.
-fn shows(work: &[u16], expected: &[u16]) -> bool {
-    match expected {
-        [12, count, slots @ ..] => blocked(work, usize::from(*count)) == slots,
-        _ => true,
-    }
-}
-
-fn work_fault(work: &[u16], n: u16, expected: &[u16]) -> Option<char> {
-    if !work_right(work, n, expected) {
-        Some('w')
-    } else if !shows(work, expected) {
-        Some('l')
-    } else {
-        None
-    }
-}
-
 impl Bench {
     pub fn new() -> Bench {
         Bench {
@@ -97,8 +116,8 @@ impl Bench {
         fill_marks(&mut self.board);
         fill_marks(&mut self.wanted);
         self.lent = Lent {
-            board: number(asked, 0),
-            work: number(asked, 1),
+            board: word_at(asked, 0),
+            work: word_at(asked, 1),
         };
     }
 
@@ -118,6 +137,7 @@ impl Bench {
 
     pub fn slot(&mut self, asked: &[u16]) {
         if let Some((s, values)) = asked.split_first() {
+            // Written out, and not the library's own.
             let mut words = [0; 11];
             write(&mut words, 0, values);
             write(&mut self.wanted, slot_start(*s), &words);
@@ -129,8 +149,8 @@ impl Bench {
     }
 
     // What is wrong with the answer, or else whether the board is.
-    fn call_fault(&self, answer: Answer, expected: &[u16]) -> Option<char> {
-        let wrong = answer_fault(answer, expected);
+    fn call_fault(&self, answer: Answer, expected: &Expected<'_>) -> Option<char> {
+        let wrong = expected.answer_fault(answer);
         if wrong.is_none() && self.board != self.wanted {
             return Some('b');
         }
@@ -138,25 +158,31 @@ impl Bench {
     }
 
     // No work words are lent.
-    pub fn open(&mut self, rt: &impl Print, n: u16, expected: &[u16]) -> io::Result<()> {
-        let answer = ask_lent(&Request::Open(n), self.lent, &mut self.board, &mut []);
+    pub fn open(&mut self, rt: &impl Print, n: u16, expected: &Expected<'_>) -> io::Result<()> {
+        let answer = self.lent.ask(&Request::Open(n), &mut self.board, &mut []);
         let wrong = self.call_fault(answer, expected);
         self.tally.note(rt, wrong)
     }
 
     // A call, with marks in all work words.
-    pub fn call(&mut self, rt: &impl Print, request: &Request, expected: &[u16]) -> io::Result<()> {
+    pub fn call(
+        &mut self,
+        rt: &impl Print,
+        request: &Request,
+        expected: &Expected<'_>,
+    ) -> io::Result<()> {
         fill_marks(&mut self.work);
-        let answer = ask_lent(request, self.lent, &mut self.board, &mut self.work);
+        let answer = self.lent.ask(request, &mut self.board, &mut self.work);
         let wrong = self.call_fault(answer, expected);
-        let spoilt = work_fault(&self.work, self.wanted[0], expected);
+        let spoilt = expected.work_fault(&self.work, self.wanted[0]);
         self.tally.note(rt, wrong)?;
         self.tally.note(rt, spoilt)
     }
 
-    pub fn check(&mut self, rt: &impl Print, expected: u16) -> io::Result<()> {
+    // Whether the board passes the check.
+    pub fn check(&mut self, rt: &impl Print, expected: bool) -> io::Result<()> {
         let passes = check(front(&self.board, self.lent.board));
-        self.tally.check(rt, 'k', passes == (expected == 1))
+        self.tally.check(rt, 'k', passes == expected)
     }
 
     // The blocked list of any length asked for is the beginning of the work words, at most all of them.

@@ -1,27 +1,29 @@
 // The script's lines.
-use crate::bench::Bench;
+use crate::bench::{Bench, Expected};
 use board::Request;
 use std::{array, io};
-use trial_kit::numbers;
+use trial_kit::{numbers, word_at};
 use words::Order;
 
 // How many numbers a line has room for before its arrow, and how many after it.
 const NUMBERS: usize = 64;
 
-// Number i of a line; one that the line does not have is 0.
-pub fn number(numbers: &[u16], i: usize) -> u16 {
-    numbers.get(i).copied().unwrap_or(0)
+// The numbers of a text, which are stored in these words.
+fn read<'a>(text: &[u8], found: &'a mut [u16]) -> &'a [u16] {
+    let count = numbers(text, found);
+    &found[..count]
 }
 
 fn order(asked: &[u16]) -> Order {
     Order {
-        number: number(asked, 0),
-        count: number(asked, 1),
-        row: array::from_fn(|j| number(asked, 2 + j)),
+        number: word_at(asked, 0),
+        count: word_at(asked, 1),
+        row: array::from_fn(|j| word_at(asked, 2 + j)),
     }
 }
 
-// What the letter says, with these numbers. A line that is not understood is wrong.
+// What the letter says, with these numbers. A line that is not understood is wrong. The letters are the script's (main.rt): matched as they come, and kept
+// nowhere.
 fn command(
     rt: &impl Print,
     letter: u8,
@@ -29,18 +31,20 @@ fn command(
     expected: &[u16],
     bench: &mut Bench,
 ) -> io::Result<()> {
+    let first = word_at(asked, 0);
+    let answer = Expected::of(expected);
     match letter {
         b'f' => bench.fresh(asked),
         b'g' => bench.given(asked),
-        b'z' => bench.zero(number(asked, 0)),
+        b'z' => bench.zero(first),
         b's' => bench.slot(asked),
-        b'h' => bench.held(number(asked, 0)),
-        b'o' => bench.open(rt, number(asked, 0), expected)?,
-        b'a' => bench.call(rt, &Request::Accept(order(asked)), expected)?,
-        b'w' => bench.call(rt, &Request::Withdraw(number(asked, 0)), expected)?,
-        b'p' => bench.call(rt, &Request::Print, expected)?,
-        b'c' => bench.check(rt, number(expected, 0))?,
-        b'b' => bench.list(rt, number(asked, 0), number(expected, 0))?,
+        b'h' => bench.held(first),
+        b'o' => bench.open(rt, first, &answer)?,
+        b'a' => bench.call(rt, &Request::Accept(order(asked)), &answer)?,
+        b'w' => bench.call(rt, &Request::Withdraw(first), &answer)?,
+        b'p' => bench.call(rt, &Request::Print, &answer)?,
+        b'c' => bench.check(rt, word_at(expected, 0) == 1)?,
+        b'b' => bench.list(rt, first, word_at(expected, 0))?,
         b'#' => {}
         _ => bench.tally.check(rt, '?', false)?,
     }
@@ -61,13 +65,7 @@ pub fn perform(rt: &impl Print, line: &[u8], bench: &mut Bench) -> io::Result<()
     let (asked, expected) = rest.split_at(arrow.unwrap_or(rest.len()));
     let mut given = [0; NUMBERS];
     let mut wanted = [0; NUMBERS];
-    let given_count = numbers(asked, &mut given);
-    let wanted_count = numbers(expected, &mut wanted);
-    command(
-        rt,
-        *letter,
-        &given[..given_count],
-        &wanted[..wanted_count],
-        bench,
-    )
+    let asked = read(asked, &mut given);
+    let expected = read(expected, &mut wanted);
+    command(rt, *letter, asked, expected, bench)
 }

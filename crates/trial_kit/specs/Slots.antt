@@ -1,5 +1,6 @@
 -- Where a board's words stand. Assumes nothing.
-use Rattle.std.specs.Prelude.{List, [], ◌∷◌, ℕ, ◌+◌, ◌-◌, ◌*◌, slice_index}
+use Rattle.std.specs.Prelude.{cond, List, [], ◌∷◌, ℕ, ◌+◌, ◌-◌, ◌*◌, eqb, Some, None, slice_index}
+use Rattle.words.specs.declared.Order.{Order}
 use Rattle.trial_kit.specs.declared.slots.Slot.{Slot}
 
 abbrev pub board_size : ℕ → ℕ
@@ -17,5 +18,9 @@ abbrev pub row_at : List ℕ → ℕ → List ℕ
 row_at w s =
     slot_word w s 3 ∷ slot_word w s 4 ∷ slot_word w s 5 ∷ slot_word w s 6 ∷ slot_word w s 7 ∷ slot_word w s 8 ∷ slot_word w s 9 ∷ slot_word w s 10 ∷ []
 
+abbrev pub order_at : List ℕ → ℕ → Order
+order_at w s = record { number = slot_word w s 0; count = slot_word w s 2; row = row_at w s }
+
+-- a slot with number 0 is free
 abbrev pub slot_at : List ℕ → ℕ → Slot
-slot_at w s = record { label = slot_word w s 1; order = record { number = slot_word w s 0; count = slot_word w s 2; row = row_at w s } }
+slot_at w s = record { label = slot_word w s 1; order = cond (eqb (slot_word w s 0) 0) None (Some (order_at w s)) }

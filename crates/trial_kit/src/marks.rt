@@ -30,14 +30,10 @@ pub fn has_marks(words: &[u16], from: usize) -> bool
 }
 
 // No word from index `from` up to `to` is other than 0.
-fn has_zeros(words: &[u16], from: usize, to: usize) -> bool
+pub fn has_zeros(words: &[u16], from: usize, to: usize) -> bool
     ensures { IsTrue result ↔ HasZeros from to words.now }
 {
-    words
-        .iter()
-        .enumerate()
-        .skip(from)
-        .all(|(i, word)| to <= i || *word == 0)
+    words.iter().take(to).skip(from).all(|word| *word == 0)
 }
 
 fn work_size(n: u16) -> usize

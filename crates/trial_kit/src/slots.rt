@@ -5,16 +5,16 @@ ghost use Rattle.trial_kit.specs.Slots.{board_size, slot_start, slot_at};
 use std::array;
 use words::Order;
 
-// Words of a board of 1,024 slots and of its work words, and some more.
+// Words of a board of 1,024 slots and of its work words, and some more, whose marks must stay. Written out: nothing here is taken from the library.
 pub const BOARD: usize = 11300;
 
 pub const WORK: usize = 13400;
 
-// What stands in a slot; the order of a free one has number 0.
+// What stands in a slot; a free one has no order.
 #[derive(Clone, Copy, Debug, PartialEq, Eq)]
 pub struct Slot {
     pub label: u16,
-    pub order: Order,
+    pub order: Option<Order>,
 }
 
 // How many words a board of n slots has.
@@ -31,23 +31,25 @@ pub fn slot_start(s: u16) -> usize
     (11 * usize::from(s)).saturating_sub(9)
 }
 
-fn word_at(board: &[u16], i: usize) -> u16
-    ensures { result ≡ slice_index board.now i }
+// Word i of a board, or of the numbers of a line; 0 where there is none.
+pub fn word_at(words: &[u16], i: usize) -> u16
+    ensures { result ≡ slice_index words.now i }
 {
-    board.get(i).copied().unwrap_or(0)
+    words.get(i).copied().unwrap_or(0)
 }
 
-// A word that the board does not have is read as 0.
+// A slot is free where its number word is 0.
 pub fn slot_at(board: &[u16], s: u16) -> Slot
     ensures { result ≡ slot_at board.now s }
 {
     let start = slot_start(s);
+    let order = Order {
+        number: word_at(board, start),
+        count: word_at(board, start + 2),
+        row: array::from_fn(|j| word_at(board, start + 3 + j)),
+    };
     Slot {
         label: word_at(board, start + 1),
-        order: Order {
-            number: word_at(board, start),
-            count: word_at(board, start + 2),
-            row: array::from_fn(|j| word_at(board, start + 3 + j)),
-        },
+        order: (order.number != 0).then_some(order),
     }
 }

@@ -52,7 +52,8 @@ impl Tally {
         self.case = self.case.wrapping_add(1);
     }
 
-    // One comparison. What is wrong is named by a letter, with the case. It is counted even where it can't be printed.
+    // One comparison. What is wrong is named by a letter, with the case: by no enum, as it is only printed, and each trial has its own. It is counted even
+    // where it can't be printed.
     pub fn note(&mut self, rt: &impl Print, fault: Option<char>) -> io::Result<()>
         ensures { self.new ≡ noted (is_none fault) self.old }
     {

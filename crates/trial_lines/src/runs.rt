@@ -13,8 +13,8 @@ const SMALL: usize = 13;
 
 const LARGE: usize = 997;
 
-// Words of a board of 1,024 slots and its work words, and bytes for answers: the longest, and a little more.
-// Written out and not the library's own, so that a wrong one there shows.
+// Words of a board of 1,024 slots and its work words, and not one more, so that a call that asks for more is refused; the trials' kit has some more,
+// which must keep their marks. Bytes for answers: the longest, and a little more. All are written out and not the library's own, so that a wrong one there shows.
 const BOARD: usize = 11266;
 
 const WORK: usize = 13316;
@@ -63,25 +63,25 @@ impl Run {
     fn pieces(&mut self, rt: &impl Print, input: &[u8], piece: usize) -> io::Result<()>
         requires { 0 < piece }
     {
-        // By indices: with a slice that each turn cuts shorter, which was tried, the proof that the loop ends did not close.
-        let mut at = 0;
-        let mut end = 0;
+        // What is not used yet, and how much of it was shown.
+        let mut rest = input;
+        let mut shown = 0;
         loop {
-            let more = input.len() - end;
+            let (held, later) = rest.split_at(shown);
             let block = run_block(
-                &input[at..end],
-                more == 0,
+                held,
+                later.is_empty(),
                 &mut self.board,
                 &mut self.work,
                 &mut self.tally,
                 &mut self.out,
             );
             print_front(rt, &self.out, block.written)?;
-            if block.consumed + more == 0 {
+            if later.is_empty() && block.consumed == 0 {
                 return Ok(());
             }
-            at += block.consumed;
-            end = end.saturating_add(piece).min(input.len());
+            rest = &rest[block.consumed..];
+            shown = held.len() - block.consumed + piece.min(later.len());
         }
     }
 

@@ -58,13 +58,14 @@ impl List {
     }
 }
 
-// Case t: each count with each number, and with each list.
+// Case t: each count with each number, and with each list. It goes by one number, as a scattered list is made of it.
 fn order(t: u16) -> Order
     ensures { result.count ≤ 8 }
 {
     let count = t % 8 + 1;
     let list = List::of_case(t);
     let mut row = [0; 8];
+    // By an index: with `zip`, which was tried, it was not proved that j is below the count.
     for j in 0..count {
         row[usize::from(j)] = list.slot(count, j);
     }
@@ -112,7 +113,8 @@ fn is_short_again(line: &[u8]) -> bool
     trip.wrote == Err(Refusal::Short) && second == [FILL; ROOM]
 }
 
-// The order is written and read back, and then its line. Room to spare stays as it was.
+// The order is written and read back, and then its line. Room to spare stays as it was. (An `Order` is the library's and has any count: so it is asked
+// here and below that these have at most eight slots.)
 fn is_written(order: &Order) -> bool
     requires { order.now.count ≤ 8 }
 {

@@ -1,4 +1,4 @@
-// What is on a board.
+// What is on a board. Board and n stay two arguments: the board is the library's words, and n what the trial asked for, not what they say.
 use std::alloc::{AllocError, Global};
 use trial_kit::slot_at;
 use words::Order;
@@ -6,8 +6,7 @@ use words::Order;
 // The orders on a board of n slots, in whatever slots, by number.
 pub fn orders_on(alloc: Global, board: &[u16], n: u16) -> Result<Vec<Order>, AllocError> {
     let mut orders: Vec<Order> = (1..=n)
-        .map(|s| slot_at(board, s).order)
-        .filter(|order| order.number != 0)
+        .filter_map(|s| slot_at(board, s).order)
         .collect(alloc)?;
     orders.sort_by_key(|order| order.number)?;
     Ok(orders)
@@ -16,8 +15,9 @@ pub fn orders_on(alloc: Global, board: &[u16], n: u16) -> Result<Vec<Order>, All
 // Every slot is free, or on the list of the order that it has.
 pub fn all_sit(board: &[u16], n: u16) -> bool {
     (1..=n).all(|s| {
-        let order = slot_at(board, s).order;
-        order.number == 0 || order.row.contains(&s)
+        slot_at(board, s)
+            .order
+            .is_none_or(|order| order.row.contains(&s))
     })
 }
 
@@ -25,6 +25,6 @@ pub fn all_sit(board: &[u16], n: u16) -> bool {
 pub fn all_new(board: &[u16], n: u16) -> bool {
     (1..=n).all(|s| {
         let slot = slot_at(board, s);
-        slot.order.number == 0 || slot.label == 1
+        slot.order.is_none() || slot.label == 1
     })
 }

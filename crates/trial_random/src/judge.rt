@@ -17,7 +17,7 @@ pub fn moves_after(outcome: &Outcome, moves: u64, answer: Answer) -> u64 {
 
 // Of an accepted order at least one move, and with those before it at most n times n.
 fn within_square(count: u64, n: u16, moves: u64) -> bool {
-    1 <= count && moves <= u64::from(u32::from(n) * u32::from(n))
+    1 <= count && moves <= u64::from(n) * u64::from(n)
 }
 
 // The answer; the moves are those after the call.

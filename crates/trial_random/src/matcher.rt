@@ -4,7 +4,7 @@ use std::alloc::{AllocError, Global};
 use trial_kit::slot_at;
 use words::Order;
 
-// A place for each slot, and one for 0.
+// A place for each slot, and one for 0. Written out, and not the library's own.
 const PLACES: usize = 1025;
 
 #[derive(Drop)]
@@ -47,15 +47,15 @@ pub fn blocked_slots(
 ) -> Result<Option<Vec<u16>>, AllocError> {
     let mut matcher = Matcher::new(alloc);
     matcher.visit(&order.row)?;
-    // By an index, as the queue grows meanwhile, and with an end, as a proved loop has one: no slot is queued twice.
+    // By an index, as the queue grows meanwhile, and up to an end, as no slot is queued twice. `while let` counts by hand, and was not proved to end
+    // without a proof of its own, by how many slots are not reached yet.
     for head in 0..PLACES {
         let Some(&s) = matcher.queue.get(head) else {
             break;
         };
-        let held = slot_at(board, s).order;
-        if held.number == 0 {
+        let Some(held) = slot_at(board, s).order else {
             return Ok(None);
-        }
+        };
         matcher.visit(&held.row)?;
     }
     let mut slots = matcher.queue;

@@ -31,8 +31,10 @@ pub struct Plan {
 fn number(seed: &mut Seed, board: &[u16], n: u16, held: bool) -> u16 {
     let s = seed.draw(n) + 1;
     let any = seed.draw(65535) + 1;
-    let number = slot_at(board, s).order.number;
-    if held && number != 0 { number } else { any }
+    match slot_at(board, s).order {
+        Some(order) if held => order.number,
+        _ => any,
+    }
 }
 
 // How far the slots of a list are apart: mostly near each other, so that slots grow scarce.
@@ -51,12 +53,12 @@ fn order(seed: &mut Seed, n: u16, number: u16) -> Order {
     let most = seed.draw(8) + 1;
     let mut count = 0;
     let mut row = [0; 8];
-    for j in 0..most {
+    for (choice, size) in row.iter_mut().zip(1..=most) {
         if n <= s {
             break;
         }
-        row[usize::from(j)] = s + 1;
-        count = j + 1;
+        *choice = s + 1;
+        count = size;
         s = s.saturating_add(seed.draw(gap) + 1);
     }
     Order { number, count, row }

@@ -6,7 +6,7 @@ use crate::plan::next_plan;
 use board::{Answer, open_board};
 use std::alloc::Global;
 use std::io;
-use trial_kit::{BOARD, Seed, Tally, WORK, ask, board_size, fill_marks, slot_start};
+use trial_kit::{BOARD, Seed, Tally, WORK, ask, board_size, fill_marks, has_zeros, slot_start};
 
 #[derive(Drop)]
 pub struct Trial {
@@ -22,16 +22,10 @@ pub struct Trial {
 
 // The board was opened: n, no orders.
 fn is_opened(board: &[u16], n: u16, answer: Answer) -> bool {
-    answer == Ok(0)
-        && board.first().copied() == Some(n)
-        && board
-            .iter()
-            .take(board_size(n))
-            .skip(1)
-            .all(|word| *word == 0)
+    answer == Ok(0) && board.first().copied() == Some(n) && has_zeros(board, 1, board_size(n))
 }
 
-// Four times the board words of n slots, and some more; no size is above 1,024, and so it fits.
+// Four times the board words of n slots, and some more; no size is above 1,024, and so it fits. Written out, and not the library's own.
 // A draw below a draw below this is less than n in about one call of ten.
 fn lowering_range(n: u16) -> u16 {
     4 * (11 * n.min(1024) + 9)

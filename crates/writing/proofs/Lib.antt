@@ -1,4 +1,3 @@
-pub mod Columns
 pub mod Texts
 pub mod Lines
 pub mod Puts

@@ -1,6 +1,7 @@
 -- The order writer's checks, one after the other, and what it answers.
 use Rattle.std.proofs.Common.{◌≡◌, ℕ, ◌≤◌, ◌<◌, ltb, List, [], ◌∷◌, length, take, arith}
 use Rattle.std.proofs.lemmas.Bool.Decides.{nat_tests}
+use Rattle.std.proofs.lemmas.List.Edits.{sets}
 use Rattle.std.proofs.Math.Seq.{length-take-le}
 use Rattle.rules.specs.Layout.{most_slots, most_choices}
 use Rattle.rules.specs.Calls.{first, order_checks}
@@ -12,8 +13,6 @@ use Rattle.answers.specs.Numbers.{code}
 use Rattle.answers.specs.declared.Refusal.{Refusal}
 use Rattle.answers.proofs.NumberLaws.{code-some}
 use Rattle.orders.proofs.Verdicts.{faulty, fine, fine-count}
-use Rattle.writing.specs.declared.text.Cursor.{Cursor}
-use Rattle.writing.specs.Storing.{Stores}
 
 module _ (k c : ℕ) (row buffer : List ℕ) (eight : length row ≡ most_choices) where
   -- ---- the checks 7 to 10, then the room
@@ -21,12 +20,12 @@ module _ (k c : ℕ) (row buffer : List ℕ) (eight : length row ≡ most_choice
   abbrev judged : ℕ
   judged = first (order_checks most_slots k c row [])
 
-  pub refused : (why : Refusal) → code why ≡ judged → record { refusal = code why; count = 0; buffer = buffer } ≡ written k c row buffer
+  pub refused : (why : Refusal) → code why ≡ judged → written k c row buffer ≡ record { refusal = code why; count = 0; buffer = buffer }
   unfolding written
   refused why e = grind (arith, nat_tests, faulty most_slots k c row why ((4, ltb (length buffer) (order_bytes c)) ∷ []) e, code-some why)
 
   module _ (e : 0 ≡ judged) where
-    pub short : length buffer < order_bytes c → record { refusal = 4; count = 0; buffer = buffer } ≡ written k c row buffer
+    pub short : length buffer < order_bytes c → written k c row buffer ≡ record { refusal = 4; count = 0; buffer = buffer }
     unfolding written
     short h = grind (arith, nat_tests, fine most_slots k c row e ((4, ltb (length buffer) (order_bytes c)) ∷ []))
 
@@ -35,9 +34,8 @@ module _ (k c : ℕ) (row buffer : List ℕ) (eight : length row ≡ most_choice
         let few = (fine-count most_slots k c row e).1 in
         omega (arith, length-text_line column_bytes (byte_of letter_a) (k ∷ take c row), length-take-le c row (omega arith))
 
-    pub writes : order_bytes c ≤ length buffer → (before after : Cursor) → before.out.now ≡ buffer → before.at ≡ 0 → Stores before (order_line k (take c row)) after
-        → (buffer' : List ℕ) → buffer' ≡ after.out.now → record { refusal = 0; count = after.at; buffer = buffer' } ≡ written k c row buffer
+    pub wrote : order_bytes c ≤ length buffer → written k c row buffer ≡ record { refusal = 0; count = order_bytes c; buffer = sets buffer 0 (order_line k (take c row)) }
     unfolding written
-    writes h before after f g s buffer' o =
-        let clear = fine most_slots k c row e ((4, ltb (length buffer) (order_bytes c)) ∷ []) in
-        grind (arith, nat_tests, clear, length-line, s.end, s.text, row8-same row eight)
+    wrote h = grind (arith, nat_tests, fine most_slots k c row e ((4, ltb (length buffer) (order_bytes c)) ∷ []), length-line, row8-same row eight)
+
+pub ruleset orders = (refused, short, length-line, wrote)

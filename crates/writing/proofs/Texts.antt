@@ -73,7 +73,7 @@ module _ (start : Cursor) (width : ℕ) (vs : List ℕ) (here : Cursor) (i : ℕ
   pub columns-more : (next : Cursor) → Stores here (column width (get_or vs i 0)) next → Leaves start (columns width vs) next (columns width (drop (i + 1) vs))
   columns-more next s = leaves-more _ _ _ _ l (column width (get_or vs i 0)) (columns width (drop (i + 1) vs)) next_column next s
 
-pub ruleset line = (sets-append, length-column, length-append, append_assoc, append-nil, length-sets)
+pub ruleset line = (sets-next, length-column, length-append, append_assoc, append-nil, length-sets)
 
 -- ---- a line: its letter, its columns, its line feed
 

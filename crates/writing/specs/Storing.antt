@@ -6,6 +6,7 @@ use Rattle.rules.specs.Letters.{byte_l}
 use Rattle.rules.specs.Layout.{number_at, label_at}
 use Rattle.rules.specs.AnswerLines.{printed, blocked_lines, slot_lines}
 use Rattle.answers.specs.declared.Reply.{Reply}
+use Rattle.writing.specs.Writing.{Puts}
 use Rattle.writing.specs.declared.text.Cursor.{Cursor}
 use Rattle.writing.specs.declared.Following.{Following}
 use Rattle.writing.specs.declared.Following.TheVariants.{Blocked, Plan, Nothing}
@@ -19,6 +20,11 @@ pub record Stores (before : Cursor) (t : List ℕ) (after : Cursor) : Type 0 whe
   pub same : after.out.ghost_name ≡ before.out.ghost_name
   pub end : after.at ≡ before.at + length t
   pub text : after.out.now ≡ sets before.out.now before.at t
+
+-- all of t stands from there, where it has room, or nothing does
+pub record StoresAll (before : Cursor) (t : List ℕ) (after : Cursor) : Type 0 where
+  pub same : after.out.ghost_name ≡ before.out.ghost_name
+  pub puts : Puts before.out.now before.at t after.at after.out.now
 
 -- the L line of slot s
 abbrev pub slot_line : List ℕ → ℕ → List ℕ

@@ -3,25 +3,23 @@
 
 mod text;
 
-ghost use Rattle.std.specs.Prelude.{◌≡◌, ◌+◌, ◌-◌, ◌^◌, min, leb, length};
+ghost use Rattle.std.specs.Prelude.{◌≡◌, ◌++◌, ◌-◌, ◌^◌, min, length};
 ghost use Rattle.rules.specs.InputLines.{written};
 ghost use Rattle.rules.specs.AnswerLines.{blocked_lines, slot_lines, following, reply_text};
 ghost use Rattle.answers.specs.Values.{reply_of};
 ghost use Rattle.writing.specs.Writing.{Puts};
 ghost use Rattle.writing.specs.Closing.{Closes};
 ghost use Rattle.writing.specs.Wrote.{wrote_of};
-ghost use Rattle.writing.specs.Storing.{Room, Stores, lines_of};
+ghost use Rattle.writing.specs.Storing.{Room, Stores, StoresAll, answer_line, lines_of};
 
-use answers::{Refusal, Reply, Tally, blocked};
+use answers::{BLOCKED, Refusal, Reply, Tally, blocked};
+use framing::COLUMN_BYTES;
 use orders::judge;
-use text::{ANSWER_WIDTH, Cursor, FRAME, ORDER_WIDTH, PER_LINE, THREE_BYTES};
+use text::{ANSWER_WIDTH, Cursor, FRAME, PER_LINE, THREE_BYTES};
 use words::{MOST_SLOTS, Order, size_of};
 
 // The line of an order without slots: its letter, its number, its line feed.
-const NUMBER_BYTES: usize = FRAME + ORDER_WIDTH;
-
-// The refusal that blocked slots follow.
-const BLOCKED: u16 = 12;
+const NUMBER_BYTES: usize = FRAME + COLUMN_BYTES;
 
 // The lines that follow an answer line: K lines of these slots, L lines of this board, or none.
 #[derive(Clone, Copy)]
@@ -32,7 +30,8 @@ enum Following<'a> {
 }
 
 impl<'a> Following<'a> {
-    // Those of a reply, from the board and the work words that its call left.
+    // Those of a reply, from the board and the work words that its call left. A `Reply` has the numbers of document 01 and prints whatever it is given: so what
+    // follows its line is told by them, as the definition `following` says. Its letter is any byte: hence the match on `b'P'`, and on no enum of letters.
     fn of(reply: Reply, board: &'a [u16], work: &'a [u16]) -> Following<'a>
         ensures { lines_of result ≡ following (reply_of reply) board.now work.now }
     {
@@ -72,82 +71,89 @@ impl<'a> Following<'a> {
     }
 }
 
-// A text of `size` bytes has room from `at` on.
-fn fits(out: &[u8], at: usize, size: usize) -> bool
-    ensures { result ≡ leb (at + size) (length out.now) }
-{
-    out.get(at..).is_some_and(|room| size <= room.len())
-}
-
-// All of the lines, or nothing.
-fn put_lines(out: &mut [u8], at: usize, lines: Following<'_>) -> usize
-    ensures { Puts out.old at (lines_of lines.entry) result out.new }
-{
-    if !fits(out, at, lines.size()) {
-        return at;
+impl Cursor<'_> {
+    // All of the lines, or nothing.
+    #[tactic(auto, using(std::proofs::lemmas::Bool::Decides::nat_tests), unfolding(crate::specs::Writing::put_text, crate::specs::Writing::end_of))]
+    fn lines(&mut self, lines: Following<'_>)
+        ensures { StoresAll self.old (lines_of lines.entry) self.new }
+    {
+        if self.fits(lines.size()) {
+            lines.put(self);
+        }
     }
-    let mut cursor = Cursor { out, at };
-    lines.put(&mut cursor);
-    cursor.at
+
+    // The answer line and these lines, or nothing.
+    #[tactic(auto, using(crate::proofs::Replies::replies), unfolding(crate::specs::Writing::put_text, crate::specs::Writing::end_of))]
+    fn reply(&mut self, reply: Reply, lines: Following<'_>)
+        ensures { StoresAll self.old (answer_line reply ++ lines_of lines.entry) self.new }
+    {
+        if self.fits(lines.size().saturating_add(THREE_BYTES)) {
+            let number = u64::from(reply.number);
+            let refusal = u64::from(reply.refusal);
+            self.three_columns(reply.letter, number, refusal, reply.count);
+            lines.put(self);
+        }
+    }
 }
 
-// The K lines: the blocked slots, eight to a line.
+// The K lines: the blocked slots, eight to a line. The program calls neither this nor `put_plan`, it puts both by `put_reply`: their promises stand in
+// docs/GUARANTEES.md.
 pub fn put_blocked(out: &mut [u8], at: usize, blocked: &[u16]) -> usize
     ensures { Puts out.old at (blocked_lines blocked.now) result out.new }
 {
-    put_lines(out, at, Following::Blocked(blocked))
+    let mut cursor = Cursor { out, at };
+    cursor.lines(Following::Blocked(blocked));
+    cursor.at
 }
 
 // The L lines: one per slot.
 pub fn put_plan(out: &mut [u8], at: usize, board: &[u16]) -> usize
     ensures { Puts out.old at (slot_lines board.now) result out.new }
 {
-    put_lines(out, at, Following::Plan(board))
+    let mut cursor = Cursor { out, at };
+    cursor.lines(Following::Plan(board));
+    cursor.at
 }
 
-// The answer line with the lines that follow it: all of them, or nothing.
+// The answer line with the lines that follow it: all of them, or nothing. Board and work words are two buffers that the caller lends, as document 01 has it: a
+// struct of both would be made at each call, only to be taken apart in `Following::of`, which shows one of them.
+#[tactic(auto, unfolding(rules::specs::AnswerLines::reply_text))]
 pub fn put_reply(reply: Reply, board: &[u16], work: &[u16], out: &mut [u8], at: usize) -> usize
     ensures { Puts out.old at (reply_text (reply_of reply) board.now work.now) result out.new }
 {
-    let lines = Following::of(reply, board, work);
-    if !fits(out, at, lines.size().saturating_add(THREE_BYTES)) {
-        return at;
-    }
     let mut cursor = Cursor { out, at };
-    let number = u64::from(reply.number);
-    let refusal = u64::from(reply.refusal);
-    cursor.three_columns(reply.letter, number, refusal, reply.count);
-    lines.put(&mut cursor);
+    cursor.reply(reply, Following::of(reply, board, work));
     cursor.at
 }
 
 // The N line, at the start of the room.
+#[tactic(auto, using(crate::proofs::Closing::closes), unfolding(rules::specs::Runs::tally_line))]
 pub fn close(t: Tally, out: &mut [u8]) -> usize
     ensures { Closes t out.old result out.new }
 {
-    if out.len() < THREE_BYTES {
-        return 0;
-    }
     let mut cursor = Cursor { out, at: 0 };
-    cursor.three_columns(
-        b'N',
-        u64::from(t.lines),
-        u64::from(t.accepted),
-        u64::from(t.refused),
-    );
+    if cursor.fits(THREE_BYTES) {
+        cursor.three_columns(
+            b'N',
+            u64::from(t.lines),
+            u64::from(t.accepted),
+            u64::from(t.refused),
+        );
+    }
     cursor.at
 }
 
 // The order writer. Refused, it writes nothing.
+#[tactic(auto, using(crate::proofs::Orders::orders))]
 pub fn write_order(buffer: &mut [u8], order: Order) -> Result<usize, Refusal>
     ensures { wrote_of result buffer.new
         ≡ written order.number order.count order.row buffer.old }
 {
     judge(MOST_SLOTS, &order)?;
-    if buffer.len() < NUMBER_BYTES + ORDER_WIDTH * usize::from(order.count) {
+    let mut cursor = Cursor { out: buffer, at: 0 };
+    if !cursor.fits(NUMBER_BYTES + COLUMN_BYTES * usize::from(order.count)) {
         return Err(Refusal::Short);
     }
-    let mut cursor = Cursor { out: buffer, at: 0 };
     cursor.order_line(&order);
     Ok(cursor.at)
 }

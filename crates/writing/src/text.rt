@@ -1,5 +1,5 @@
 // Columns and lines as bytes from a place in a lent buffer on, which has room for them.
-ghost use Rattle.std.specs.Prelude.{◌≡◌, [], ◌∷◌, ◌+◌, ◌≤◌, ◌<◌, length};
+ghost use Rattle.std.specs.Prelude.{◌≡◌, [], ◌∷◌, ◌+◌, ◌≤◌, ◌<◌, leb, length};
 ghost use Rattle.rules.specs.Text.{digit, glyph, column, columns};
 ghost use Rattle.rules.specs.Letters.{byte_k};
 ghost use Rattle.rules.specs.InputLines.{order_line};
@@ -8,11 +8,10 @@ ghost use Rattle.words.specs.Carried.{carried};
 ghost use Rattle.writing.specs.Writing.{three_bytes};
 ghost use Rattle.writing.specs.Storing.{Room, Stores, slot_line};
 
+use framing::COLUMN_BYTES;
 use words::{Order, label_at, number_at, size_of};
 
-// The places of a column, in an order's line and in all that is printed.
-pub(crate) const ORDER_WIDTH: usize = 6;
-
+// "columns ten wide": in all that is printed.
 pub(crate) const ANSWER_WIDTH: usize = 10;
 
 // A line's letter and line feed.
@@ -32,29 +31,32 @@ fn digit(v: u64) -> u8
 }
 
 // The same with a space for 0.
-#[tactic(auto, using(crate::proofs::Columns::glyph_of))]
 fn glyph(v: u64) -> u8
     ensures { result ≡ glyph v }
 {
     if v == 0 { b' ' } else { digit(v) }
 }
 
-// v in the places of a column, from the last one to the first: a lone 0 is written, places before the number are spaces.
-#[tactic(auto, using(crate::proofs::Columns::places))]
+// v in the places of a column, from the last one to the first: a lone 0 is written, places before the number are spaces. By index: what `iter_mut().rev()`
+// stores is unknown to a proof, and a call of itself for the places before the last was proved, but K lines took 4 in 100 longer. By hand: of `write!` a proof
+// knows what an `Ok` has written, but never that it is `Ok`, and of a lent slice's bytes nothing; out of a buffer of its own (`itoa`) a number would be copied
+// again, cut to its last places where the column is narrower, and its text related to the column's definition: no plainer.
+#[tactic(auto, unfolding(rules::specs::Text::column))]
 fn fill_column(places: &mut [u8], v: u64)
-    requires { 0 < length places.old }
     ensures { places.new ≡ column (length places.old) v }
 {
-    let last = places.len() - 1;
-    places[last] = digit(v);
-    let mut rest = v / 10;
-    for i in (0..last).rev() {
-        places[i] = glyph(rest);
-        rest /= 10;
+    if let Some((last, before)) = places.split_last_mut() {
+        *last = digit(v);
+        let mut left = v / 10;
+        for i in (0..before.len()).rev() {
+            before[i] = glyph(left);
+            left /= 10;
+        }
     }
 }
 
-// Where text goes on in a lent buffer.
+// Where text goes on in a lent buffer. No slice that shrinks, nor do the public functions take one: callers ask how far it came, and lend the whole room again
+// for the next answer.
 #[derive(Drop)]
 pub(crate) struct Cursor<'a> {
     pub(crate) out: &'a mut [u8],
@@ -62,6 +64,15 @@ pub(crate) struct Cursor<'a> {
 }
 
 impl Cursor<'_> {
+    // A text of `size` bytes has room.
+    pub(crate) fn fits(&self, size: usize) -> bool
+        ensures { result ≡ leb (self.now.at + size) (length self.now.out.now) }
+    {
+        self.out
+            .get(self.at..)
+            .is_some_and(|room| size <= room.len())
+    }
+
     fn byte(&mut self, byte: u8)
         requires { Room self.old 1 }
         ensures { Stores self.old (byte ∷ []) self.new }
@@ -72,8 +83,7 @@ impl Cursor<'_> {
 
     #[tactic(auto, using(crate::proofs::Texts::placed))]
     fn column(&mut self, width: usize, v: u64)
-        requires wide { 0 < width }
-        requires room { Room self.old width }
+        requires { Room self.old width }
         ensures { Stores self.old (column width v) self.new }
     {
         let end = self.at + width;
@@ -82,8 +92,7 @@ impl Cursor<'_> {
     }
 
     fn columns(&mut self, width: usize, values: &[u16])
-        requires wide { 0 < width }
-        requires room { Room self.old (length (columns width values.now)) }
+        requires { Room self.old (length (columns width values.now)) }
         ensures { Stores self.old (columns width values.now) self.new }
     {
         for &v in values {
@@ -91,7 +100,7 @@ impl Cursor<'_> {
         }
     }
 
-    // A line of three columns: most of what is printed. Inlined, for then the cursor stays in registers.
+    // A line of three columns: most of what is printed. Without a loop and inlined, for then the cursor stays in registers.
     #[inline(always)]
     #[tactic(auto, using(crate::proofs::Texts::line), unfolding(rules::specs::Text::text_line))]
     pub(crate) fn three_columns(&mut self, letter: u8, a: u64, b: u64, c: u64)
@@ -153,8 +162,8 @@ impl Cursor<'_> {
         ensures { Stores self.old (order_line order.now.number (carried order.now).list) self.new }
     {
         self.byte(b'A');
-        self.column(ORDER_WIDTH, u64::from(order.number));
-        self.columns(ORDER_WIDTH, order.list());
+        self.column(COLUMN_BYTES, u64::from(order.number));
+        self.columns(COLUMN_BYTES, order.list());
         self.byte(b'\n');
     }
 }

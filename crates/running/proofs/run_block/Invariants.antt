@@ -1,6 +1,3 @@
-use Prim.Native.Nat.{◌-◌}
-use lib.ListN.{length}
-use Rattle.framing.specs.Ends.{line_end}
 use Rattle.rules.specs.Known.{Knows}
 use Rattle.checking.specs.Known.{known_of}
 use Rattle.running.specs.BlockLoop.{Same, Turning, state_at}
@@ -9,7 +6,4 @@ use Rattle.running.proofs.run_block.Given as goal
 -- `running::run_block` meets its contract. The invariant: what is left to do, the block of what is left of the input, joins to the whole; and what is known of board and work words is true.
 abbrev pub invariant-loop-e : goal.invariant-loop-e
 invariant-loop-e l =
-    Turning l.input l.ended (state_at l.initial.answering) l.initial.answering.out.now l.answering l.at (line_end l.input l.at) × Same l.initial.answering l.answering × Knows (known_of l.known) l.answering.board.now l.answering.work.now
-
-abbrev pub decreases-loop-e : goal.decreases-loop-e
-decreases-loop-e l = length l.input - l.at
+    Turning l.input l.ended (state_at l.initial.answering) l.initial.answering.out.now l.answering l.at l.e-iterator × Same l.initial.answering l.answering × Knows (known_of l.known) l.answering.board.now l.answering.work.now

@@ -5,6 +5,4 @@ use Rattle.checking.proofs.Chunks.{zeros_there}
 use Rattle.checking.proofs.slots.is_blank.Goals as goal
 
 pub returns : goal.returns
-returns c =
-    c.all_zero.ensures ∙ zeros_there c.args.board.now c.start_of.result c.min.result c.min-2.result 11 c.min.ensures c.min-2.ensures
-    ∙ ap (λ (i : ℕ). zeros (reads c.args.board.now i 11)) c.start_of.ensures
+returns c = c.all_zero.ensures ∙ zeros_there c.args.board.now _ c.start_of.result c.min.result 11 c.words_from-from.ensures c.min.ensures ∙ ap (λ (i : ℕ). zeros (reads c.args.board.now i 11)) c.start_of.ensures

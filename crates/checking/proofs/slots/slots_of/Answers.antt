@@ -4,13 +4,12 @@ use Rattle.rules.specs.Layout.{reads, base, slot_words}
 use Rattle.checking.specs.Slots.{whole, whole_slots}
 use Rattle.checking.proofs.Chunks.{whole_are}
 use Rattle.checking.proofs.slots.slots_of.Goals as goal
-use Rattle.checking.proofs.slots.slots_of.Goals.{After-min-2}
+use Rattle.checking.proofs.slots.slots_of.Goals.{After-min}
 
-words : (c : After-min-2) → take c.min-2.result c.as_chunks.result.0.now ≡ whole_slots c.args.n c.args.board.now
+words : (c : After-min) → take c.min.result c.as_chunks.result.0.now ≡ whole_slots c.args.n c.args.board.now
 words c =
     let a = c.as_chunks.ensures in
-    ap (take c.min-2.result) a.front
-    ∙ whole_are c.args.board.now c.args.n c.min.result c.min-2.result c.min.ensures (c.min-2.ensures ∙ λ i. min (a.front_len i) (c.from.ensures i))
+    ap (take c.min.result) a.front ∙ whole_are c.args.board.now _ c.args.n c.min.result c.words_from.ensures (c.min.ensures ∙ λ i. min (a.front_len i) (c.from.ensures i))
 
 pub returns-clause-words : goal.returns-clause-words
 returns-clause-words c = words c

@@ -1,7 +1,7 @@
-use Rattle.std.proofs.Common.{◌≡◌, ◌++◌, length, drop}
-use Rattle.rules.specs.Text.{padded, column}
+use Rattle.std.proofs.Common.{◌≡◌, ◌++◌, ◌/◌, length, drop}
+use Rattle.rules.specs.Text.{padded}
 use Rattle.writing.proofs.text.fill_column.Given as goal
 
 -- With the places that are left filled, the column stands.
 abbrev pub invariant-loop-i : goal.invariant-loop-i
-invariant-loop-i l = padded l.i l.rest ++ drop l.i l.places ≡ column (length l.places) l.v
+invariant-loop-i l = padded l.i l.left ++ drop l.i l.before ≡ padded (length l.before) (l.v / 10)
