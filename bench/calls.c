@@ -25,8 +25,8 @@ static double now(void)
 static bool slot_fine(const u16 *b, u16 n, u16 s)
 {
     const u16 *w = b + 2 + 11 * (s - 1);
-    u16 count = w[2], last = 0;
-    bool own = false;
+    bool started = w[2] > 16, own = false;
+    u16 count = started ? w[2] - 16 : w[2], last = 0;
     int i;
     if (w[0] == 0) {
         for (i = 0; i < 11; i++) {
@@ -50,7 +50,7 @@ static bool slot_fine(const u16 *b, u16 n, u16 s)
     }
     if (!own)
         return false;
-    for (i = 0; i < count; i++) {
+    for (i = 0; !started && i < count; i++) {
         u16 t = w[3 + i];
         if (t != s && w[1] > b[2 + 11 * (t - 1) + 1] + 1)
             return false;
@@ -107,7 +107,7 @@ static u16 plain_refused(u16 *b, size_t words, u16 *w, size_t scratch, u16 numbe
         const u16 *x = b + 2 + 11 * (queue[head++] - 1);
         if (!x[0])
             return 0;
-        for (i = 0; i < x[2]; i++) {
+        for (i = 0; x[2] <= 16 && i < x[2]; i++) { /* a started order leads nowhere */
             u16 t = x[3 + i];
             if (!marked[t]) {
                 marked[t] = 1;

@@ -72,6 +72,18 @@ def churn(r, count, n):
             yield line("W", k)
 
 
+def starts(r, count, n):
+    """The board is opened, filled to two thirds, and each of its orders is started, over and over."""
+    made = 0
+    while made < count:
+        numbers = list(range(1, max(1, n * 2 // 3) + 1))
+        lines = [line("S", n)] + [line("A", k, *rising(r, n, 8)) for k in numbers]
+        r.shuffle(numbers)
+        lines += [line("F", k) for k in numbers]
+        yield from lines[:count - made]
+        made += len(lines)
+
+
 def prints(r, count, n):
     yield line("S", n)
     for k in range(1, n // 2):
@@ -102,8 +114,10 @@ def mixed(r, count, n):
             if r.random() < 0.03:
                 r.shuffle(l)
             yield line("A", r.randint(0, 2 * n), *l)
-        elif x < 0.85:
+        elif x < 0.83:
             yield line("W", r.randint(0, 2 * n))
+        elif x < 0.85:
+            yield line("F", r.randint(0, 2 * n))
         elif x < 0.90:
             yield b"P\n"
         elif x < 0.97:

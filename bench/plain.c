@@ -12,6 +12,7 @@ struct slot {
 };
 
 static struct slot board[MOST + 1];
+static uint16_t started[MOST + 1]; /* by slot: a started order stays in its own */
 static unsigned n, held;
 static uint32_t lines, accepted, refused;
 static unsigned char in[IN], out[OUT];
@@ -221,20 +222,24 @@ static void accept(const unsigned *v, unsigned columns)
     answer('A', number, 0, place(x));
 }
 
+/* the refusal of a W or F, or 0; the order's slot is *s then */
+static unsigned named(unsigned number, unsigned *s)
+{
+    if (n == 0)
+        return 5;
+    if (number == 0)
+        return 7;
+    *s = where(number);
+    if (*s == 0)
+        return 13;
+    return started[*s] ? 14 : 0;
+}
+
 static void withdraw(unsigned number)
 {
-    unsigned s;
-    if (n == 0) {
-        answer('W', number, 5, 0);
-        return;
-    }
-    if (number == 0) {
-        answer('W', number, 7, 0);
-        return;
-    }
-    s = where(number);
-    if (!s) {
-        answer('W', number, 13, 0);
+    unsigned s, refusal = named(number, &s);
+    if (refusal) {
+        answer('W', number, refusal, 0);
         return;
     }
     memset(&board[s], 0, sizeof board[0]);
@@ -245,6 +250,18 @@ static void withdraw(unsigned number)
             board[s].label = 1;
     }
     answer('W', number, 0, 0);
+}
+
+/* no line shows a list, so that the order's own slot is all that is left of it */
+static void start(unsigned number)
+{
+    unsigned s, refusal = named(number, &s);
+    if (!refusal) {
+        started[s] = 1;
+        board[s].count = 1;
+        board[s].row[0] = (uint16_t)s;
+    }
+    answer('F', number, refusal, 0);
 }
 
 static void print(void)
@@ -276,6 +293,7 @@ static void open_board(unsigned m)
     n = m;
     held = 0;
     memset(board, 0, sizeof board);
+    memset(started, 0, sizeof started);
     answer('S', m, 0, 0);
 }
 
@@ -306,6 +324,7 @@ static void line(const unsigned char *p, size_t len)
     switch (p[0]) {
     case 'S':
     case 'W':
+    case 'F':
         if (columns != 1)
             goto spoilt;
         break;
@@ -341,6 +360,9 @@ static void line(const unsigned char *p, size_t len)
         break;
     case 'W':
         withdraw(v[0]);
+        break;
+    case 'F':
+        start(v[0]);
         break;
     default:
         print();

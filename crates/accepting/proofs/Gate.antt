@@ -29,13 +29,13 @@ own n (suc c) (suc m) more (x ∷ row) h k o = ap (λ (l : List ℕ). x ∷ l) (
 own n (suc c) (suc m) zero [] h k o = absurd (omega arith)
 own n (suc c) (suc m) (suc more) [] h k o = absurd o
 
--- no check turns it down
-pub goes : (k c : ℕ) (row w t : List ℕ) → 0 ≡ first (late (accept k c row) w) → past_gate (accept k c row) w t ≡ bring_in w t (record { number = k; list = take c row })
+-- no check turns it down: it comes in, not started
+pub goes : (k c : ℕ) (row w t : List ℕ) → 0 ≡ first (late (accept k c row) w) → past_gate (accept k c row) w t ≡ bring_in w t (record { number = k; list = take c row; fixed = 0 })
 unfolding past_gate act_tidied
 goes k c row w t e =
     let few : c ≤ most_choices = grind (arith, nat_tests) in
     let on : on_board (size w) (order k c row).list ≡ true = grind (arith, nat_tests) in
-    rw (sym e) (ap (λ (l : List ℕ). bring_in w t (record { number = k; list = l })) (own (size w) c most_choices most_choices row few few (of-true _ on)))
+    rw (sym e) (ap (λ (l : List ℕ). bring_in w t (record { number = k; list = l; fixed = 0 })) (own (size w) c most_choices most_choices row few few (of-true _ on)))
 
 -- what comes after the gate
 pub ruleset taking = (turned, goes, code-some)

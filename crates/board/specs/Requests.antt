@@ -1,18 +1,19 @@
 -- A call as the code asks it, and what its performance answers and leaves.
 use Rattle.std.specs.Prelude.{List, ◌≡◌, ℕ, Result}
-use Rattle.rules.specs.Calls.{Call, open-board, accept, withdraw, print}
+use Rattle.rules.specs.Calls.{Call, open-board, accept, withdraw, start-order, print}
 use Rattle.rules.specs.Known.{perform_known, known_past, past_gate, known_after}
 use Rattle.answers.specs.Numbers.{said}
 use Rattle.answers.specs.declared.Rejection.{Rejection}
 use Rattle.checking.specs.declared.Known.{Known}
 use Rattle.checking.specs.Known.{known_of}
 use Rattle.board.specs.declared.Request.{Request}
-use Rattle.board.specs.declared.Request.TheVariants.{Open, Accept, Withdraw, Print}
+use Rattle.board.specs.declared.Request.TheVariants.{Open, Accept, Withdraw, Start, Print}
 
 abbrev pub call_for : Request → Call
 call_for (Open n) = open-board n
 call_for (Accept o) = accept o.number o.count o.row
 call_for (Withdraw k) = withdraw k
+call_for (Start k) = start-order k
 call_for Print = print
 
 -- The call q, of whatever words, by what is known; and what is known after it.

@@ -1,4 +1,4 @@
-// The calls of document 01 on a lent board. `perform` does each of them by what is known of board and work words, and keeps what is known true;
+// The calls of document 01 on a lent board, and P1's. `perform` does each of them by what is known of board and work words, and keeps what is known true;
 // a single call finds that out first. Board and work words stay two loans, here and above: a call is lent work words of its own, an opening none, a
 // print may not write the board, and a struct of two `&mut` would be taken apart again in each function. Nor is there a struct of a request and what is
 // known: what is known outlives it, lent to the next line's, and the definitions take the two apart.
@@ -12,6 +12,7 @@ ghost use Rattle.rules.specs.Calls.{
   step,
   accept as accept_call,
   withdraw as withdraw_call,
+  start-order as start_call,
   print as print_call,
 };
 ghost use Rattle.rules.specs.Known.{gate_of, few_of, past_gate, perform_known, known_opened};
@@ -24,17 +25,19 @@ use answers::shown_by;
 pub use answers::{Answer, Refusal, Rejection, blocked};
 pub use checking::check;
 use checking::{Known, assess, short_for, work_gate};
+use starting::mark_started;
 use storing::{put_size, zero_front};
 use withdrawing::take_out;
 pub use words::Order;
 use words::{MOST_SLOTS, board_words, size_of, work_words};
 
-// "open a board, accept an order, withdraw one, print"
+// "open a board, accept an order, withdraw one, print"; P1: start one
 #[derive(Clone, Copy, Debug, PartialEq, Eq)]
 pub enum Request {
     Open(u16),
     Accept(Order),
     Withdraw(u16),
+    Start(u16),
     Print,
 }
 
@@ -66,7 +69,8 @@ fn gate_for(request: &Request, board: &[u16], known: Known) -> Result<(), Refusa
 {
     match request {
         Request::Open(n) => open_gate(board, *n),
-        Request::Accept(_) | Request::Withdraw(_) | Request::Print => known.gate,
+        Request::Accept(_) | Request::Withdraw(_) | Request::Start(_) | Request::Print =>
+            known.gate,
     }
 }
 
@@ -76,7 +80,7 @@ fn few_for(request: &Request, known: Known) -> usize
 {
     match request {
         Request::Open(_) => 0,
-        Request::Accept(_) | Request::Withdraw(_) | Request::Print => known.few,
+        Request::Accept(_) | Request::Withdraw(_) | Request::Start(_) | Request::Print => known.few,
     }
 }
 
@@ -100,6 +104,7 @@ fn past_gate(request: &Request, board: &mut [u16], work: &mut [u16]) -> Answer
         }
         Request::Accept(order) => take_order(board, work, order),
         Request::Withdraw(number) => take_out(board, *number),
+        Request::Start(number) => mark_started(board, *number),
         Request::Print => slots_counted(board),
     }
 }
@@ -122,7 +127,7 @@ fn known_past(known: Known, request: &Request, n: u16, a: Answer, len: usize) ->
 {
     match request {
         Request::Open(m) => known_opened(known, *m, n, len),
-        Request::Accept(_) | Request::Withdraw(_) | Request::Print => Known {
+        Request::Accept(_) | Request::Withdraw(_) | Request::Start(_) | Request::Print => Known {
             gate: Ok(()),
             few: shown_by(a),
         },
@@ -171,6 +176,12 @@ pub fn withdraw(board: &mut [u16], work: &mut [u16], number: u16) -> Answer
     ensures { said result board.new work.new ≡ step (withdraw_call number) board.old work.old }
 {
     call(&Request::Withdraw(number), board, work)
+}
+
+pub fn start(board: &mut [u16], work: &mut [u16], number: u16) -> Answer
+    ensures { said result board.new work.new ≡ step (start_call number) board.old work.old }
+{
+    call(&Request::Start(number), board, work)
 }
 
 // The board is lent for reading only, so that `perform`, which may write it, cannot be asked: its own parts for a print.

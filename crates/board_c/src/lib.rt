@@ -27,11 +27,7 @@ pub extern "C" fn slotboard_accept_two(
 ) -> u16
     ensures { Accepts number first second board.old work.old result board.new work.new }
 {
-    let order = Order {
-        number,
-        count: 2,
-        row: [first, second, 0, 0, 0, 0, 0, 0],
-    };
+    let order = Order::new(number, 2, [first, second, 0, 0, 0, 0, 0, 0]);
     match board::accept(board, work, order) {
         Err(Rejection::Blocked(slots)) => slots,
         Ok(_) | Err(Rejection::Refused(_)) | Err(Rejection::Undecided) => 0,

@@ -1,12 +1,12 @@
 -- What the reader gives of a line, against the line's own call.
 use Rattle.std.proofs.Common.{◌≡◌, ℕ, List, Result, Ok, Err, get_or, refl, sym, ap, ◌∙◌, arith}
 use Rattle.std.proofs.lemmas.Bool.{ne_eqb}
-use Rattle.rules.specs.Calls.{Call, Answer, open-board, accept, withdraw}
+use Rattle.rules.specs.Calls.{Call, Answer, open-board, accept, withdraw, start-order}
 use Rattle.rules.specs.Known as Rules
 use Rattle.rules.specs.Known.{Knows, perform_known, known_after}
 use Rattle.rules.specs.KnownLines.{asked, handle_known, known_line}
 use Rattle.rules.specs.InputLines.{values, call_of}
-use Rattle.rules.specs.Letters.{Letter, letter_s, letter_a, letter_w, letter_p, letter_x, byte_of}
+use Rattle.rules.specs.Letters.{Letter, letter_s, letter_a, letter_w, letter_f, letter_p, letter_x, byte_of}
 use Rattle.rules.specs.Runs.{State, first_number, answered, handle_line}
 use Rattle.rules.proofs.Knowing.{lines}
 use Rattle.words.specs.declared.Order.{Order}
@@ -20,7 +20,7 @@ use Rattle.answers.proofs.NumberLaws.{code-some}
 use Rattle.checking.specs.declared.Known.{Known}
 use Rattle.checking.specs.Known.{known_of}
 use Rattle.reading.specs.declared.Kind.{Kind}
-use Rattle.reading.specs.declared.Kind.TheVariants.{Open, Accept, Withdraw, Print}
+use Rattle.reading.specs.declared.Kind.TheVariants.{Open, Accept, Withdraw, Start, Print}
 use Rattle.reading.specs.declared.Line.{Line}
 use Rattle.reading.specs.Reading.{kind_letter, line_of}
 use Rattle.reading.proofs.LineUses.{ReadsAs, reads-as, refused-as, first-column}
@@ -32,6 +32,7 @@ first-shown : (x : Letter) (vs us : List ℕ) (r : Answer) → get_or vs 0 0 ≡
 first-shown letter_s vs us r e = e
 first-shown letter_a vs us r e = e
 first-shown letter_w vs us r e = e
+first-shown letter_f vs us r e = e
 first-shown letter_p vs us r e = refl
 first-shown letter_x vs us r e = refl
 
@@ -53,6 +54,7 @@ module _ (l : List ℕ) (r : Result Line Refusal) (given : r ≡ line_of l) wher
     by_kind Open = ap open-board number_is
     by_kind Accept = ap (λ (o : Order). accept o.number o.count o.row) gives.order
     by_kind Withdraw = ap withdraw number_is
+    by_kind Start = ap start-order number_is
     by_kind Print = refl
 
     call-is : line_call read ≡ asked l

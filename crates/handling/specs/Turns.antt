@@ -1,6 +1,6 @@
 -- What a line's handling answers and leaves, by what is known; and what is known after it.
 use Rattle.std.specs.Prelude.{List, ◌≡◌, ℕ, get_or, Result}
-use Rattle.rules.specs.Calls.{Call, open-board, accept, withdraw, print}
+use Rattle.rules.specs.Calls.{Call, open-board, accept, withdraw, start-order, print}
 use Rattle.rules.specs.Known.{perform_known, known_after}
 use Rattle.rules.specs.KnownLines.{handle_known, known_line}
 use Rattle.rules.specs.Runs as R
@@ -13,7 +13,7 @@ use Rattle.checking.specs.declared.Known.{Known}
 use Rattle.checking.specs.Known.{known_of}
 use Rattle.reading.specs.Reading.{kind_letter, line_order}
 use Rattle.reading.specs.declared.Kind.{Kind}
-use Rattle.reading.specs.declared.Kind.TheVariants.{Open, Accept, Withdraw, Print}
+use Rattle.reading.specs.declared.Kind.TheVariants.{Open, Accept, Withdraw, Start, Print}
 use Rattle.reading.specs.declared.Line.{Line}
 
 pub record Turns (l : List ℕ) (k : Known) (s : R.State) (r : Reply) (k' : Known) (t : Tally) (w' work' : List ℕ) : Type 0 where
@@ -25,6 +25,7 @@ abbrev pub call_by : Kind → Line → Call
 call_by Open l = open-board (get_or l.columns 0 0)
 call_by Accept l = accept (line_order l).number (line_order l).count (line_order l).row
 call_by Withdraw l = withdraw (get_or l.columns 0 0)
+call_by Start l = start-order (get_or l.columns 0 0)
 call_by Print l = print
 
 abbrev pub line_call : Line → Call

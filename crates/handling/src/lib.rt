@@ -25,6 +25,7 @@ fn request_of(line: &Line) -> Request
         Kind::Open => Request::Open(line.columns[0]),
         Kind::Accept => Request::Accept(line.order()),
         Kind::Withdraw => Request::Withdraw(line.columns[0]),
+        Kind::Start => Request::Start(line.columns[0]),
         Kind::Print => Request::Print,
     }
 }
@@ -34,7 +35,7 @@ fn shown_number(line: &Line, answer: Answer, board: &[u16]) -> u16
     ensures { Shows line.now answer board.now result }
 {
     match line.kind {
-        Kind::Open | Kind::Accept | Kind::Withdraw => line.columns[0],
+        Kind::Open | Kind::Accept | Kind::Withdraw | Kind::Start => line.columns[0],
         Kind::Print => match answer {
             Ok(_) => held_of(board),
             Err(_) => 0,

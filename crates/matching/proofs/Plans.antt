@@ -1,6 +1,6 @@
 -- A plan, which is a function from orders to slots, against a plan as a list of seats: each gives the other where no number stands twice.
 use mathlib.Core.Path.{◌≡◌, sym, ap, ◌∙◌, subst}
-use mathlib.Core.Bool.{Bool, not, cond}
+use mathlib.Core.Bool.{Bool, not, cond, true, false}
 use mathlib.Core.Logic.{◌⊎◌, inl, inr}
 use mathlib.Core.List.Memᴰ
 use mathlib.Core.List.Memᴰ.{head as here}
@@ -10,7 +10,7 @@ use Prim.Native.Nat.{ℕ, ◌≤◌}
 use native.Mathlib.Omega.{arith}
 use lib.Dec.{T, eqb, eqb_refl, not_T, T_not}
 use Rattle.matching.specs.Lists.{count_if, member, all}
-use Rattle.matching.specs.Orders.{Order, open_slots, Seat, seat, SameOrders, orders, same_number, Plan}
+use Rattle.matching.specs.Orders.{Order, open_slots, started, Seat, seat, SameOrders, orders, same_number, Plan}
 use Rattle.matching.proofs.Counting.{indicator-of, dec-T, cond_yes, cond_no, count_if-map, count_if-mono, count_if-none, member_of, of-member}
 use Rattle.matching.proofs.Seats.{sits_in, SeatPlan}
 use Rattle.matching.proofs.Sets.{all-at, all_of}
@@ -97,3 +97,25 @@ to_function c os u p = record {
     own' o m =
         let w = Memᴰ.of_map (λ (q : Seat). q.who) ss m in
         subst (λ (r : Order). T (member (f r) (open_slots r))) w.2 (subst (λ (i : ℕ). T (member i (open_slots w.0.who))) (sym (at w.0 w.1)) (member_of (p.fair.own w.0 w.1)))
+
+-- ---- started orders
+
+-- "only its own slot is open to it": of a started order nothing else is
+pub open_started : (o : Order) → T (started o) → open_slots o ≡ o.fixed ∷ []
+unfolding open_slots
+open_started o t = cond_no (eqb o.fixed 0) o.list (o.fixed ∷ []) t
+
+-- an order that is not started has its whole list
+pub open-unstarted : (o : Order) → T (not (started o)) → open_slots o ≡ o.list
+unfolding open_slots
+open-unstarted o t = cond_yes (eqb o.fixed 0) o.list (o.fixed ∷ []) (of_not_not (eqb o.fixed 0) t)
+  where
+    of_not_not : (b : Bool) → T (not (not b)) → T b
+    of_not_not true t = tt
+    of_not_not false t = absurd t
+
+-- "A plan now has to keep each started order in its slot."
+pub keeps-started : (c : ℕ) (os : List Order) (p : Plan c os) {o : Order} → Mem o os → T (started o) → p.slot_of o ≡ o.fixed
+keeps-started c os p {o} m t =
+    Memᴰ.eq_of_singleton (of-member (p.slot_of o) (o.fixed ∷ [])
+    (subst (λ (l : List ℕ). T (member (p.slot_of o) l)) (open_started o t) (all-at (λ q. member (p.slot_of q) (open_slots q)) os p.own m)))

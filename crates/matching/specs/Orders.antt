@@ -1,25 +1,34 @@
 -- Orders, who sits where, and plans. `c` is how many orders a slot may hold; document 01 has 1.
-use Rattle.std.specs.Prelude.{◌≡◌, Bool, List, [], ◌∷◌, ◌++◌, map, ℕ, ◌*◌, ◌≤◌, ◌<◌, T, eqb, length}
+use Rattle.std.specs.Prelude.{◌≡◌, Bool, not, cond, List, [], ◌∷◌, ◌++◌, map, ℕ, ◌*◌, ◌≤◌, ◌<◌, T, eqb, length}
 use Rattle.matching.specs.Lists.{count_if, all, member, within, slots}
 
--- "An order has a number, 1 to 65,535, and a list of 1 to 8 different slots in rising order."
+-- "An order has a number, 1 to 65,535, and a list of 1 to 8 different slots in rising order." `fixed` is the slot in which a started order stays (P1),
+-- 0 where the order is not started.
 pub record Order : Type 0 where
   pub number : ℕ
   pub list : List ℕ
+  pub fixed : ℕ
 
--- The slots open to an order: "every slot open to it, here its whole list".
+abbrev pub started : Order → Bool
+started o = not (eqb o.fixed 0)
+
+-- The slots open to an order: its whole list; of a started order, "its list stays written, but only its own slot is open to it" (P1).
 unfoldable pub open_slots : Order → List ℕ
-open_slots o = o.list
+open_slots o = cond (eqb o.fixed 0) o.list (o.fixed ∷ [])
 
 -- Two orders are the same order if their numbers are equal: what "held already", "not held" and "no order number stands twice" go by.
 abbrev pub same_number : ℕ → Order → Bool
 same_number k o = eqb o.number k
 
+-- order k is started in slot s; every other order stays as it is
+abbrev pub started_in : ℕ → ℕ → Order → Order
+started_in k s o = record { number = o.number; list = o.list; fixed = cond (same_number k o) s o.fixed }
+
 -- These lists hold the same orders, each as often: every test passes as many of the one as of the other.
 abbrev pub SameOrders : List Order → List Order → Type 0
 SameOrders xs ys = (P : Order → Bool) → count_if P xs ≡ count_if P ys
 
--- 01's term: "An order is confined to a set of slots if every slot open to it, here its whole list, is in the set."
+-- 01's term: "An order is confined to a set of slots if every slot open to it .. is in the set."
 abbrev pub confined : List ℕ → Order → Bool
 confined S o = within (open_slots o) S
 
@@ -28,6 +37,7 @@ abbrev pub Crowded : ℕ → List ℕ → List Order → Type 0
 Crowded c S os = c * length S < count_if (confined S) os
 
 -- 01's term: "A plan gives the new order and every held one a slot of its own list, no two the same." For c = 1 "at most one of them in each slot".
+-- "A plan now has to keep each started order in its slot" (P1): no other is open to it.
 pub record Plan (c : ℕ) (os : List Order) : Type 0 where
   pub slot_of : Order → ℕ
   pub own : T (all (λ o. member (slot_of o) (open_slots o)) os)

@@ -6,7 +6,7 @@ use Rattle.std.proofs.lemmas.Bool.{leb-true, eqb-true, eqb-false, and_parts}
 use Rattle.std.proofs.lemmas.List.{length-map, take-replicate, get_or-take, get_or-drop}
 use Rattle.rules.specs.Layout.{most_choices, reads, row8}
 use Rattle.rules.specs.InputLines.{column_value, letter_of, column_count, columns_from, most_bytes, allowed, well_formed, values, line_refusal}
-use Rattle.rules.specs.Letters.{Letter, letter_s, letter_a, letter_w, letter_p, letter_x}
+use Rattle.rules.specs.Letters.{Letter, letter_s, letter_a, letter_w, letter_f, letter_p, letter_x}
 use Rattle.rules.proofs.Cutting.{either}
 use Rattle.rules.proofs.WordLaws.{reads-is, length-row8}
 use Rattle.answers.specs.Numbers.{code}
@@ -14,7 +14,7 @@ use Rattle.answers.specs.declared.Refusal.{Refusal}
 use Rattle.answers.specs.declared.Refusal.TheVariants.{Malformed}
 use Rattle.reading.specs.declared.Kind.{Kind}
 use Rattle.reading.proofs.LineLaws.{allowed-known}
-use Rattle.reading.specs.declared.Kind.TheVariants.{Open, Accept, Withdraw, Print}
+use Rattle.reading.specs.declared.Kind.TheVariants.{Open, Accept, Withdraw, Start, Print}
 use Rattle.reading.specs.declared.Line.{Line}
 use Rattle.reading.specs.Reading.{kind_letter, kind_of, refused_as, most_columns, ten_columns, line_read, line_of, line_order}
 
@@ -73,12 +73,13 @@ pub record ReadsAs (l : List ℕ) (line : Line) : Type 0 where
   pub letter : kind_letter line.kind ≡ letter_of l
   pub columns : line.columns ≡ ten_columns (values l)
   -- the order of a line that is taken is that of its numbers
-  pub order : line_order line ≡ record { number = get_or (values l) 0 0; count = length (values l) - 1; row = row8 (drop 1 (values l)) }
+  pub order : line_order line ≡ record { number = get_or (values l) 0 0; count = length (values l) - 1; row = row8 (drop 1 (values l)); fixed = 0 }
 
 by-letter : (x : Letter) (l : List ℕ) (line : Line) → ok_or (option_map (line_read l) (kind_of x)) Malformed ≡ Ok line → (kind : Kind) × (kind_letter kind ≡ x) × (line_read l kind ≡ line)
 by-letter letter_s l line e = (Open, refl, cc)
 by-letter letter_a l line e = (Accept, refl, cc)
 by-letter letter_w l line e = (Withdraw, refl, cc)
+by-letter letter_f l line e = (Start, refl, cc)
 by-letter letter_p l line e = (Print, refl, cc)
 by-letter letter_x l line e = absurd cc
 
@@ -95,7 +96,7 @@ reads-as l line e = either (eqb (line_refusal l) 0) (λ z. taken (eqb-true (line
           taken = h;
           letter = ap (λ (t : Line). kind_letter t.kind) is ∙ read.1;
           columns = ap (λ (t : Line). t.columns) is;
-          order = ap line_order is ∙ (λ i. record { number = first-column (values l) i; count = few i; row = columns-row (values l) i });
+          order = ap line_order is ∙ (λ i. record { number = first-column (values l) i; count = few i; row = columns-row (values l) i; fixed = 0 });
         }
 
 refusals : (l : List ℕ) → line_refusal l ≤ 2

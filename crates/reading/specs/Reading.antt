@@ -3,12 +3,12 @@ use Rattle.std.specs.Prelude.{cond, List, ◌++◌, ℕ, ◌-◌, Option, Some, 
 use Rattle.std.specs.Option.{ok_or, option_map}
 use Rattle.rules.specs.InputLines.{letter_of, column_count, allowed, values, line_refusal}
 use Rattle.rules.specs.Layout.{most_choices, reads}
-use Rattle.rules.specs.Letters.{Letter, letter_s, letter_a, letter_w, letter_p, letter_x}
+use Rattle.rules.specs.Letters.{Letter, letter_s, letter_a, letter_w, letter_f, letter_p, letter_x}
 use Rattle.answers.specs.declared.Refusal.{Refusal}
 use Rattle.answers.specs.declared.Refusal.TheVariants.{Malformed, TooLarge}
 use Rattle.words.specs.declared.Order.{Order}
 use Rattle.reading.specs.declared.Kind.{Kind}
-use Rattle.reading.specs.declared.Kind.TheVariants.{Open, Accept, Withdraw, Print}
+use Rattle.reading.specs.declared.Kind.TheVariants.{Open, Accept, Withdraw, Start, Print}
 use Rattle.reading.specs.declared.Line.{Line}
 
 -- ---- the document's letter of every kind, and back
@@ -17,12 +17,14 @@ abbrev pub kind_letter : Kind → Letter
 kind_letter Open = letter_s
 kind_letter Accept = letter_a
 kind_letter Withdraw = letter_w
+kind_letter Start = letter_f
 kind_letter Print = letter_p
 
 abbrev pub kind_of : Letter → Option Kind
 kind_of letter_s = Some Open
 kind_of letter_a = Some Accept
 kind_of letter_w = Some Withdraw
+kind_of letter_f = Some Start
 kind_of letter_p = Some Print
 kind_of letter_x = None
 
@@ -54,6 +56,6 @@ line_of l =
     let code = line_refusal l in
     cond (eqb code 0) (ok_or (option_map (line_read l) (kind_of (letter_of l))) Malformed) (Err (refused_as code))
 
--- the order that a line's numbers give: "A: the order's number, then its slots"
+-- the order that a line's numbers give: "A: the order's number, then its slots". It is not started.
 abbrev pub line_order : Line → Order
-line_order l = record { number = get_or l.columns 0 0; count = min l.count most_columns - 1; row = reads l.columns 1 most_choices }
+line_order l = record { number = get_or l.columns 0 0; count = min l.count most_columns - 1; row = reads l.columns 1 most_choices; fixed = 0 }

@@ -19,6 +19,7 @@ pub enum Kind {
     Open,
     Accept,
     Withdraw,
+    Start,
     Print,
 }
 
@@ -33,6 +34,7 @@ impl Kind {
             (b'S', 1) => Some(Kind::Open),
             (b'A', 1..=MOST_COLUMNS) => Some(Kind::Accept),
             (b'W', 1) => Some(Kind::Withdraw),
+            (b'F', 1) => Some(Kind::Start),
             (b'P', 0) => Some(Kind::Print),
             _ => None,
         }
@@ -46,14 +48,15 @@ impl Kind {
             Kind::Open => b'S',
             Kind::Accept => b'A',
             Kind::Withdraw => b'W',
+            Kind::Start => b'F',
             Kind::Print => b'P',
         }
     }
 }
 
 // A line that is read: its columns as ten numbers and their count, 0 for each that it does not have. Its numbers are those of the line, also where a
-// call could not carry them, as a ninth slot. Kind and columns stand apart, and are no enum with
-// numbers: three of the four kinds answer with the first column. An array with its count, and no ArrayVec: a Line is copied, and an ArrayVec is not Copy.
+// call could not carry them, as a ninth slot. Kind and columns stand apart, and are no enum with numbers: every kind but Print answers with the first column.
+// An array with its count, and no ArrayVec: a Line is copied, and an ArrayVec is not Copy.
 #[derive(Clone, Copy, Debug, PartialEq, Eq)]
 pub struct Line {
     pub kind: Kind,
@@ -62,18 +65,14 @@ pub struct Line {
 }
 
 impl Line {
-    // The order that a line's columns give. Those after the number are the slots, and the first eight the row: check 8 turns a ninth down. At most nine: the cast
-    // loses nothing.
+    // The order that a line's columns give, as it is sent: not started. Those after the number are the slots, and the first eight the row: check 8 turns a
+    // ninth down. At most nine: the cast loses nothing.
     pub fn order(&self) -> Order
         ensures { result ≡ line_order self.now }
     {
         let [number, a, b, c, d, e, f, g, h, _ninth] = self.columns;
         let slots = self.count.min(MOST_COLUMNS).saturating_sub(1);
-        Order {
-            number,
-            count: slots as u16,
-            row: [a, b, c, d, e, f, g, h],
-        }
+        Order::new(number, slots as u16, [a, b, c, d, e, f, g, h])
     }
 }
 

@@ -14,7 +14,7 @@ use Rattle.answers.specs.declared.Refusal.{Refusal}
 use Rattle.words.specs.declared.Order.{Order}
 use Rattle.reading.specs.Reading.{kind_letter, line_of}
 use Rattle.reading.specs.declared.Kind.{Kind}
-use Rattle.reading.specs.declared.Kind.TheVariants.{Open, Accept, Withdraw, Print}
+use Rattle.reading.specs.declared.Kind.TheVariants.{Open, Accept, Withdraw, Start, Print}
 use Rattle.reading.specs.declared.Line.{Line}
 use Rattle.reading.proofs.LineUses.{reads-as, refused-as}
 use Rattle.round_trip.specs.ReadWrite.{unwritten, call_written, rewritten, kind_written, read_written}
@@ -30,11 +30,12 @@ module _ (l buffer : List ℕ) where
   refused-written why e = rw (refused-as l why e, ne_eqb (code why) 0 (λ z. omega (arith, code-some why)))
 
   -- read
-  by_kind : (x : Kind) (vs : List ℕ) → kind_written x (record { number = get_or vs 0 0; count = length vs - 1; row = row8 (drop 1 vs) }) buffer ≡ call_written (call_of (kind_letter x) vs) buffer
+  by_kind : (x : Kind) (vs : List ℕ) → kind_written x (record { number = get_or vs 0 0; count = length vs - 1; row = row8 (drop 1 vs); fixed = 0 }) buffer ≡ call_written (call_of (kind_letter x) vs) buffer
   unfolding call_of
   by_kind Open vs = refl
   by_kind Accept vs = refl
   by_kind Withdraw vs = refl
+  by_kind Start vs = refl
   by_kind Print vs = refl
 
   taken-written : (line : Line) → line_of l ≡ Ok line → read_written (Ok line) buffer ≡ rewritten l buffer

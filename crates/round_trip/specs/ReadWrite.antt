@@ -1,7 +1,7 @@
 -- A line is read, and where it is an A line its order is written.
 use Rattle.std.specs.Prelude.{◌≡◌, cond, List, [], ℕ, ◌+◌, ◌≤◌, Result, Ok, Err, eqb, length}
 use Rattle.rules.specs.Layout.{most_slots}
-use Rattle.rules.specs.Calls.{Call, open-board, accept, withdraw, print, first, order_checks}
+use Rattle.rules.specs.Calls.{Call, open-board, accept, withdraw, start-order, print, first, order_checks}
 use Rattle.rules.specs.InputLines.{letter_of, values, line_refusal, call_of, Written, written}
 use Rattle.rules.specs.RoundTrip.{line_written, AcceptedOrder}
 use Rattle.rules.specs.Runs.{State}
@@ -10,7 +10,7 @@ use Rattle.answers.specs.declared.Refusal.{Refusal}
 use Rattle.words.specs.declared.Order.{Order}
 use Rattle.reading.specs.Reading.{line_of, line_order}
 use Rattle.reading.specs.declared.Kind.{Kind}
-use Rattle.reading.specs.declared.Kind.TheVariants.{Open, Accept, Withdraw, Print}
+use Rattle.reading.specs.declared.Kind.TheVariants.{Open, Accept, Withdraw, Start, Print}
 use Rattle.reading.specs.declared.Line.{Line}
 use Rattle.writing.specs.Wrote.{wrote_of}
 use Rattle.round_trip.specs.declared.RoundTrip.{RoundTrip}
@@ -24,6 +24,7 @@ abbrev pub call_written : Call → List ℕ → Written
 call_written (open-board n) buffer = unwritten 0 buffer
 call_written (accept k c row) buffer = written k c row buffer
 call_written (withdraw k) buffer = unwritten 0 buffer
+call_written (start-order k) buffer = unwritten 0 buffer
 call_written print buffer = unwritten 0 buffer
 
 -- what is written of the line l: a line that is not read has its refusal, 1 or 2
@@ -46,6 +47,7 @@ abbrev pub kind_written : Kind → Order → List ℕ → Written
 kind_written Open o buffer = unwritten 0 buffer
 kind_written Accept o buffer = written o.number o.count o.row buffer
 kind_written Withdraw o buffer = unwritten 0 buffer
+kind_written Start o buffer = unwritten 0 buffer
 kind_written Print o buffer = unwritten 0 buffer
 
 -- Internal: what is written of a line as the reader gave it

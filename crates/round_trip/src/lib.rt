@@ -18,7 +18,8 @@ pub struct RoundTrip {
     pub wrote: Result<usize, Refusal>,
 }
 
-// Writes an order, and reads the line that then stands in the buffer, without its line feed: no bytes where the order was refused.
+// Writes an order, and reads the line that then stands in the buffer, without its line feed: no bytes where the order was refused. What is promised speaks of
+// number, count and row alone: a started order is written and read as one that is not.
 #[tactic(auto, using(crate::proofs::WriteReads::reads))]
 pub fn write_and_read(buffer: &mut [u8], order: Order) -> RoundTrip
     ensures { WritesReads order.number order.count order.row buffer.old result buffer.new }
@@ -36,7 +37,7 @@ fn write_line(line: Result<Line, Refusal>, buffer: &mut [u8]) -> Result<usize, R
     let line = line?;
     match line.kind {
         Kind::Accept => write_order(buffer, line.order()),
-        Kind::Open | Kind::Withdraw | Kind::Print => Ok(0),
+        Kind::Open | Kind::Withdraw | Kind::Start | Kind::Print => Ok(0),
     }
 }
 

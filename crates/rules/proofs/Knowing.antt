@@ -11,7 +11,7 @@ use borrow.Author.Tests.{le-leb, lt-leb, le-ltb, ne_eqb}
 use Rattle.matching.specs.Blocking.{blocked}
 use Rattle.matching.specs.Orders.{Order, seats}
 use Rattle.matching.specs.Placing.{Result, accepted, refused, unfinished, place}
-use Rattle.rules.specs.Calls.{Call, Answer, order, open-board, accept, withdraw, print, first, early, late, checks, board_checks, open_checks, cleared, shown, refused_late, undecided, finished, act, step}
+use Rattle.rules.specs.Calls.{Call, Answer, order, open-board, accept, withdraw, start-order, print, first, early, late, checks, board_checks, open_checks, cleared, shown, refused_late, undecided, finished, act, step}
 use Rattle.rules.specs.Check.{passes}
 use Rattle.rules.specs.Known.{Known, Knows, Zeros, perform_known, swept, shown_by, known_opened, known_after}
 use Rattle.rules.specs.KnownLines.{asked, handle_known, known_line}
@@ -106,6 +106,10 @@ module _ (k : Known) (w work : List ℕ) (know : Knows k w work) where
     unfolding act
     swept-withdraw j e = let i = (acts (withdraw j) w work (ledger_of w) (inv-start w (gate-facts w work pass).0) e).inv in clean _ i.passed i.size
 
+    swept-start : (j : ℕ) → first (checks (start-order j) w work) ≡ 0 → Swept (act (start-order j) w work)
+    unfolding act
+    swept-start j e = let i = (acts (start-order j) w work (ledger_of w) (inv-start w (gate-facts w work pass).0) e).inv in clean _ i.passed i.size
+
     swept-print : Swept (act print w work)
     unfolding act
     swept-print = clean w sound refl
@@ -152,6 +156,10 @@ module _ (k : Known) (w work : List ℕ) (know : Knows k w work) where
   unfolding known_after
   withdraw-past j pass = rw (sym know.gate ∙ pass, past k w work know (withdraw j) pass) (swept_step pass (withdraw j) pass (swept-withdraw pass j))
 
+  start-past : (j : ℕ) → first (board_checks w work) ≡ 0 → After (start-order j)
+  unfolding known_after
+  start-past j pass = rw (sym know.gate ∙ pass, past k w work know (start-order j) pass) (swept_step pass (start-order j) pass (swept-start pass j))
+
   print-past : first (board_checks w work) ≡ 0 → After print
   unfolding known_after act
   print-past pass = rw (sym know.gate ∙ pass, (goes print w work pass refl).1) (swept-print pass)
@@ -160,6 +168,7 @@ module _ (k : Known) (w work : List ℕ) (know : Knows k w work) where
   past-gate (open-board m) e = open-past m e
   past-gate (accept j c row) e = accept-past j c row e
   past-gate (withdraw j) e = withdraw-past j e
+  past-gate (start-order j) e = start-past j e
   past-gate print e = print-past e
 
   -- (b) what is known after a call is true

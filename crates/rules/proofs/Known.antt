@@ -9,7 +9,7 @@ use lib.Dec.{T, ltb}
 use lib.ListN.{length}
 use borrow.Author.Tests.{lt-ltb, ne_eqb}
 use Rattle.rules.specs.Bringing.{answer}
-use Rattle.rules.specs.Calls.{Call, open-board, accept, withdraw, print, order, first, board_checks, short_for, early, late, cleared, refused_late, withdrawn, act, step}
+use Rattle.rules.specs.Calls.{Call, open-board, accept, withdraw, print, order, first, board_checks, short_for, early, late, cleared, refused_late, withdrawn, act, step, start-order, marked}
 use Rattle.rules.specs.Check.{passes}
 use Rattle.rules.specs.Known.{Known, Knows, gate_of, few_of, tidied, act_tidied, past_gate, perform_known}
 use Rattle.rules.specs.Layout.{word, size, work_words}
@@ -36,6 +36,7 @@ module _ (k : Known) (w work : List ℕ) (know : Knows k w work) where
   gate-is (open-board n) = refl
   gate-is (accept j c row) = sym know.gate
   gate-is (withdraw j) = sym know.gate
+  gate-is (start-order j) = sym know.gate
   gate-is print = sym know.gate
 
   -- what may be something else than 0 is all that has to be cleared
@@ -54,12 +55,14 @@ module _ (k : Known) (w work : List ℕ) (know : Knows k w work) where
       let z = (goes (accept j c row) w work pass e).0 in
       rw (clean pass) (brings w work (order j c row) (passed-of w (gate-facts w work pass).0) (Checks.ready j c row w work z) (gate-facts w work pass).1 (Checks.fresh j c row w work z))
   cleared-act (withdraw j) pass e = ap (answer 0 0 (withdrawn j w)) (clean pass)
+  cleared-act (start-order j) pass e = ap (answer 0 0 (marked j w)) (clean pass)
   cleared-act print pass e = ap (answer 0 (word w 0) w) (clean pass)
 
   cleared-late : (q : Call) (code : ℕ) → first (early q w work) ≡ 0 → first (late q w) ≡ suc code → answer (suc code) 0 w (tidied (few_of k q) work) ≡ refused_late (suc code) w work
   cleared-late (open-board n) code pass e = absurd (omega arith)
   cleared-late (accept j c row) code pass e = ap (answer (suc code) 0 w) (clean pass)
   cleared-late (withdraw j) code pass e = ap (answer (suc code) 0 w) (clean pass)
+  cleared-late (start-order j) code pass e = ap (answer (suc code) 0 w) (clean pass)
   cleared-late print code pass e = absurd (omega arith)
 
   pub past : (q : Call) → first (early q w work) ≡ 0 → Past q

@@ -8,6 +8,7 @@ pub mod Checks
 pub mod Finding
 pub mod Withdraw
 pub mod Opening
+pub mod Starting
 pub mod Decide
 pub mod Brings
 pub mod History

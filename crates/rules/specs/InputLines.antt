@@ -3,8 +3,8 @@ use Rattle.std.specs.Prelude.{Bool, false, not, ◌&&◌, cond, List, [], ◌∷
 use Rattle.std.proofs.lemmas.List.Edits.{sets}
 use Rattle.matching.specs.Lists.{all, any}
 use Rattle.rules.specs.Layout.{most_slots, row8}
-use Rattle.rules.specs.Calls.{Call, open-board, accept, withdraw, print, order, Check, first, order_checks}
-use Rattle.rules.specs.Letters.{Letter, letter_s, letter_a, letter_w, letter_p, letter_x, byte_of, letter_named}
+use Rattle.rules.specs.Calls.{Call, open-board, accept, withdraw, start-order, print, order, Check, first, order_checks}
+use Rattle.rules.specs.Letters.{Letter, letter_s, letter_a, letter_w, letter_f, letter_p, letter_x, byte_of, letter_named}
 use Rattle.rules.specs.Text.{space, text_line}
 
 -- ---- "A column is none to five spaces, then a decimal number without leading zeros (a lone 0 is allowed)."
@@ -54,12 +54,13 @@ abbrev pub columns_from : List ℕ → ℕ → ℕ → List (List ℕ)
 columns_from l i zero = []
 columns_from l i (suc k) = column_at l i ∷ columns_from l (i + 1) k
 
--- "S has one column, n. A has one to ten: order number, then slots. W has one, the order number. P has none."
+-- "S has one column, n. A has one to ten: order number, then slots. W has one, the order number. P has none." P1: "Line F with an order number".
 -- "Each letter has its own allowed count of columns": what begins no line has none.
 abbrev pub allowed : Letter → ℕ → Bool
 allowed letter_s count = eqb count 1
 allowed letter_a count = leb 1 count && leb count 10
 allowed letter_w count = eqb count 1
+allowed letter_f count = eqb count 1
 allowed letter_p count = eqb count 0
 allowed letter_x count = false
 
@@ -88,6 +89,7 @@ unfoldable pub call_of : Letter → List ℕ → Call
 call_of letter_s vs = open-board (get_or vs 0 0)
 call_of letter_a vs = accept (get_or vs 0 0) (length vs - 1) (row8 (drop 1 vs))
 call_of letter_w vs = withdraw (get_or vs 0 0)
+call_of letter_f vs = start-order (get_or vs 0 0)
 call_of letter_p vs = print
 call_of letter_x vs = print
 

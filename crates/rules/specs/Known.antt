@@ -3,7 +3,7 @@
 use Rattle.std.specs.Prelude.{cond, List, ◌≡◌, ℕ, ◌≤◌, ◌<◌, min, eqb, ltb, leb, length, replicate}
 use Rattle.std.proofs.lemmas.List.Edits.{sets}
 use Rattle.rules.specs.Bringing.{answer, bring_in}
-use Rattle.rules.specs.Calls.{Call, open-board, accept, withdraw, print, Answer, order, first, open_checks, board_checks, late, opened, withdrawn}
+use Rattle.rules.specs.Calls.{Call, open-board, accept, withdraw, start-order, print, Answer, order, first, open_checks, board_checks, late, opened, withdrawn, marked}
 use Rattle.rules.specs.Layout.{word, size, work_words}
 
 -- `gate`: the first of the checks 4 to 6 that turns a call down, or 0. `few`: so many of the first work words may be something else than 0.
@@ -28,6 +28,7 @@ abbrev pub gate_of : Known → Call → List ℕ → ℕ
 gate_of k (open-board n) w = first (open_checks n w)
 gate_of k (accept j c row) w = k.gate
 gate_of k (withdraw j) w = k.gate
+gate_of k (start-order j) w = k.gate
 gate_of k print w = k.gate
 
 -- so many work words are cleared: none by an opening
@@ -35,6 +36,7 @@ abbrev pub few_of : Known → Call → ℕ
 few_of k (open-board n) = 0
 few_of k (accept j c row) = k.few
 few_of k (withdraw j) = k.few
+few_of k (start-order j) = k.few
 few_of k print = k.few
 
 abbrev pub tidied : ℕ → List ℕ → List ℕ
@@ -46,6 +48,7 @@ unfolding bring_in
 act_tidied (open-board n) w t = answer 0 0 (opened n w) t
 act_tidied (accept j c row) w t = bring_in w t (order j c row)
 act_tidied (withdraw j) w t = answer 0 0 (withdrawn j w) t
+act_tidied (start-order j) w t = answer 0 0 (marked j w) t
 act_tidied print w t = answer 0 (size w) w t
 
 -- its late checks first
@@ -83,6 +86,7 @@ abbrev pub known_past : Known → Call → ℕ → Answer → ℕ → Known
 known_past k (open-board m) n r len = known_opened k m n len
 known_past k (accept j c row) n r len = swept (shown_by r)
 known_past k (withdraw j) n r len = swept (shown_by r)
+known_past k (start-order j) n r len = swept (shown_by r)
 known_past k print n r len = swept (shown_by r)
 
 -- a call that is turned down at the gate leaves all as it was

@@ -6,6 +6,7 @@ pub data Letter : Type 0 where
   letter_s : Letter
   letter_a : Letter
   letter_w : Letter
+  letter_f : Letter
   letter_p : Letter
   letter_x : Letter
 
@@ -13,6 +14,7 @@ abbrev pub byte_of : Letter → ℕ
 byte_of letter_s = 83
 byte_of letter_a = 65
 byte_of letter_w = 87
+byte_of letter_f = 70
 byte_of letter_p = 80
 byte_of letter_x = 88
 
@@ -22,7 +24,8 @@ letter_named b =
     cond (eqb b (byte_of letter_s)) letter_s
     (cond (eqb b (byte_of letter_a)) letter_a
     (cond (eqb b (byte_of letter_w)) letter_w
-    (cond (eqb b (byte_of letter_p)) letter_p letter_x)))
+    (cond (eqb b (byte_of letter_f)) letter_f
+    (cond (eqb b (byte_of letter_p)) letter_p letter_x))))
 
 -- ---- the lines that are only printed: K, L and N
 

@@ -4,11 +4,20 @@
 
 ghost use Rattle.std.specs.Prelude.{◌≡◌, set, replicate, take};
 ghost use Rattle.std.proofs.lemmas.List.Edits.{sets};
-ghost use Rattle.rules.specs.Layout.{size_word, held_word, base, label_word, row8, slot_record, free_slot};
+ghost use Rattle.rules.specs.Layout.{
+  size_word,
+  held_word,
+  base,
+  label_word,
+  count_word,
+  row8,
+  slot_record,
+  free_slot,
+};
 ghost use Rattle.words.specs.Carried.{carried};
 
 use std::array;
-use words::{HELD, LABEL, MOST_CHOICES, Order, SIZE, SLOT_WORDS, start_of};
+use words::{COUNT, HELD, LABEL, MOST_CHOICES, NO_SLOT, Order, SIZE, SLOT_WORDS, start_of};
 
 // The row with 0 beyond the count. By a product: with a branch for each choice, or a `fill`, a turn of the search takes longer.
 fn padded(order: &Order) -> [u16; MOST_CHOICES]
@@ -18,14 +27,24 @@ fn padded(order: &Order) -> [u16; MOST_CHOICES]
     array::from_fn(|k| order.row[k] * u16::from(k < count))
 }
 
-// The words of a slot that holds the order. Its list is written whole, whichever slots are open to it; it has at most
-// eight, so the cast loses nothing.
+// The words of a slot that holds the order. Its list is written whole, whichever slots are open to it.
 fn record_of(order: &Order, label: u16) -> [u16; SLOT_WORDS]
     ensures { result ≡ slot_record (carried order.now) label }
 {
-    let count = order.list().len() as u16;
     let [a, b, c, d, e, f, g, h] = padded(order);
-    [order.number, label, count, a, b, c, d, e, f, g, h]
+    [
+        order.number,
+        label,
+        order.count_word(),
+        a,
+        b,
+        c,
+        d,
+        e,
+        f,
+        g,
+        h,
+    ]
 }
 
 // The words of slot s become these. Cut by indices here and below: after the loan that a slice's `get_mut` gives, the check knows its length alone.
@@ -41,14 +60,15 @@ fn put_record(board: &mut [u16], s: u16, contents: &[u16; SLOT_WORDS])
     }
 }
 
-// The order goes into slot s, which gets this label. Where all the words are there, as in the search, what stands before the row and the row are
-// copied by themselves: a turn of the search with a record copied whole takes twice the time. (At most eight: the cast loses nothing.)
+// The order goes into slot s, which gets this label. Where all the words are there and the order is not started, as mostly in the search, what stands before
+// the row and the row are copied by themselves, and the count word is the count: a turn of the search with a record copied whole takes twice the time, and
+// with a mark that may be or not be a third more. (At most eight: the cast loses nothing.)
 pub fn put_order(board: &mut [u16], s: u16, label: u16, order: &Order)
     ensures { board.new ≡ sets board.old (base s) (slot_record (carried order.now) label) }
 {
     let start = start_of(s);
     let end = start + SLOT_WORDS;
-    if end <= board.len() {
+    if order.fixed == NO_SLOT && end <= board.len() {
         let row = end - MOST_CHOICES;
         board[start..row].copy_from_slice(&[order.number, label, order.list().len() as u16]);
         board[row..end].copy_from_slice(&padded(order));
@@ -63,7 +83,7 @@ pub fn put_free(board: &mut [u16], s: u16)
     put_record(board, s, &[0; SLOT_WORDS]);
 }
 
-// What the three below share: each of them names a place, and nothing else.
+// What the four below share: each of them names a place, and nothing else.
 fn put_word(board: &mut [u16], i: usize, x: u16)
     ensures { board.new ≡ set board.old i x }
 {
@@ -76,6 +96,12 @@ pub fn put_label(board: &mut [u16], s: u16, label: u16)
     ensures { board.new ≡ set board.old (label_word s) label }
 {
     put_word(board, start_of(s) + LABEL, label);
+}
+
+pub fn put_count_word(board: &mut [u16], s: u16, x: u16)
+    ensures { board.new ≡ set board.old (count_word s) x }
+{
+    put_word(board, start_of(s) + COUNT, x);
 }
 
 pub fn put_size(board: &mut [u16], n: u16)

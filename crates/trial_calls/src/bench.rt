@@ -112,7 +112,7 @@ impl Bench {
     }
 
     // All words get their marks, in the expected board too.
-    pub fn fresh(&mut self, asked: &[u16]) {
+    pub fn lend(&mut self, asked: &[u16]) {
         fill_marks(&mut self.board);
         fill_marks(&mut self.wanted);
         self.lent = Lent {

@@ -15,10 +15,18 @@ fn read<'a>(text: &[u8], found: &'a mut [u16]) -> &'a [u16] {
 }
 
 fn order(asked: &[u16]) -> Order {
-    Order {
-        number: word_at(asked, 0),
-        count: word_at(asked, 1),
-        row: array::from_fn(|j| word_at(asked, 2 + j)),
+    let row = array::from_fn(|j| word_at(asked, 2 + j));
+    Order::new(word_at(asked, 0), word_at(asked, 1), row)
+}
+
+// An order that comes with a slot in which it stays: a caller may send that, and it counts for nothing.
+fn marked(asked: &[u16]) -> Order {
+    match asked.split_first() {
+        Some((s, rest)) => Order {
+            fixed: *s,
+            ..order(rest)
+        },
+        None => order(asked),
     }
 }
 
@@ -34,14 +42,16 @@ fn command(
     let first = word_at(asked, 0);
     let answer = Expected::of(expected);
     match letter {
-        b'f' => bench.fresh(asked),
+        b'l' => bench.lend(asked),
         b'g' => bench.given(asked),
         b'z' => bench.zero(first),
         b's' => bench.slot(asked),
         b'h' => bench.held(first),
         b'o' => bench.open(rt, first, &answer)?,
         b'a' => bench.call(rt, &Request::Accept(order(asked)), &answer)?,
+        b'm' => bench.call(rt, &Request::Accept(marked(asked)), &answer)?,
         b'w' => bench.call(rt, &Request::Withdraw(first), &answer)?,
+        b'f' => bench.call(rt, &Request::Start(first), &answer)?,
         b'p' => bench.call(rt, &Request::Print, &answer)?,
         b'c' => bench.check(rt, word_at(expected, 0) == 1)?,
         b'b' => bench.list(rt, first, word_at(expected, 0))?,

@@ -1,5 +1,5 @@
 -- Where a board's words stand. Assumes nothing.
-use Rattle.std.specs.Prelude.{cond, List, [], ◌∷◌, ℕ, ◌+◌, ◌-◌, ◌*◌, eqb, Some, None, slice_index}
+use Rattle.std.specs.Prelude.{Bool, cond, List, [], ◌∷◌, ℕ, ◌+◌, ◌-◌, ◌*◌, eqb, ltb, Some, None, slice_index}
 use Rattle.words.specs.declared.Order.{Order}
 use Rattle.trial_kit.specs.declared.slots.Slot.{Slot}
 
@@ -18,8 +18,16 @@ abbrev pub row_at : List ℕ → ℕ → List ℕ
 row_at w s =
     slot_word w s 3 ∷ slot_word w s 4 ∷ slot_word w s 5 ∷ slot_word w s 6 ∷ slot_word w s 7 ∷ slot_word w s 8 ∷ slot_word w s 9 ∷ slot_word w s 10 ∷ []
 
+-- the count word of a started order is its count of slots and 16 more
+abbrev pub is_started : List ℕ → ℕ → Bool
+is_started w s = ltb 16 (slot_word w s 2)
+
+abbrev pub count_at : List ℕ → ℕ → ℕ
+count_at w s = cond (is_started w s) (slot_word w s 2 - 16) (slot_word w s 2)
+
+-- a started order stays in the slot in which it stands
 abbrev pub order_at : List ℕ → ℕ → Order
-order_at w s = record { number = slot_word w s 0; count = slot_word w s 2; row = row_at w s }
+order_at w s = record { number = slot_word w s 0; count = count_at w s; row = row_at w s; fixed = cond (is_started w s) s 0 }
 
 -- a slot with number 0 is free
 abbrev pub slot_at : List ℕ → ℕ → Slot

@@ -4,7 +4,7 @@ ghost use Rattle.rules.specs.Calls.{step};
 ghost use Rattle.answers.specs.Numbers.{said};
 ghost use Rattle.board.specs.Requests.{call_for};
 
-use board::{Answer, Request, accept, open_board, print, withdraw};
+use board::{Answer, Request, accept, open_board, print, start, withdraw};
 
 // The call that is requested, by itself; an opening is lent no work words.
 pub fn ask(request: &Request, board: &mut [u16], work: &mut [u16]) -> Answer
@@ -14,6 +14,7 @@ pub fn ask(request: &Request, board: &mut [u16], work: &mut [u16]) -> Answer
         Request::Open(n) => open_board(board, *n),
         Request::Accept(order) => accept(board, work, *order),
         Request::Withdraw(number) => withdraw(board, work, *number),
+        Request::Start(number) => start(board, work, *number),
         Request::Print => print(board, work),
     }
 }

@@ -10,6 +10,9 @@ pub const BOARD: usize = 11300;
 
 pub const WORK: usize = 13400;
 
+// The count word of a started order is so much more than its count of slots. Written out too.
+pub const STARTED: u16 = 16;
+
 // What stands in a slot; a free one has no order.
 #[derive(Clone, Copy, Debug, PartialEq, Eq)]
 pub struct Slot {
@@ -38,15 +41,22 @@ pub fn word_at(words: &[u16], i: usize) -> u16
     words.get(i).copied().unwrap_or(0)
 }
 
-// A slot is free where its number word is 0.
+// A slot is free where its number word is 0. Its order is started, and stays in it, where the count word is above 16.
 pub fn slot_at(board: &[u16], s: u16) -> Slot
     ensures { result ≡ slot_at board.now s }
 {
     let start = slot_start(s);
+    let count_word = word_at(board, start + 2);
+    let started = STARTED < count_word;
     let order = Order {
         number: word_at(board, start),
-        count: word_at(board, start + 2),
+        count: if started {
+            count_word - STARTED
+        } else {
+            count_word
+        },
         row: array::from_fn(|j| word_at(board, start + 3 + j)),
+        fixed: if started { s } else { 0 },
     };
     Slot {
         label: word_at(board, start + 1),

@@ -69,11 +69,8 @@ fn order(t: u16) -> Order
     for j in 0..count {
         row[usize::from(j)] = list.slot(count, j);
     }
-    Order {
-        number: NUMBERS[usize::from(t / 8 % 10)],
-        count,
-        row,
-    }
+    let number = NUMBERS[usize::from(t / 8 % 10)];
+    Order::new(number, count, row)
 }
 
 // Bytes of the order's line with its feed.

@@ -12,6 +12,15 @@ pub fn orders_on(alloc: Global, board: &[u16], n: u16) -> Result<Vec<Order>, All
     Ok(orders)
 }
 
+// The slot in which the order of this number sits.
+pub fn seat_of(board: &[u16], n: u16, number: u16) -> Option<u16> {
+    (1..=n).find(|s| {
+        slot_at(board, *s)
+            .order
+            .is_some_and(|order| order.number == number)
+    })
+}
+
 // Every slot is free, or on the list of the order that it has.
 pub fn all_sit(board: &[u16], n: u16) -> bool {
     (1..=n).all(|s| {

@@ -3,7 +3,7 @@ use crate::boards::{all_new, all_sit};
 use crate::plan::{Outcome, Plan};
 use answers::count_of;
 use board::{Answer, Refusal, Rejection, blocked, check};
-use trial_kit::{board_size, has_marks, is_cleared};
+use trial_kit::{STARTED, board_size, has_marks, is_cleared, slot_start};
 use words::Order;
 
 // The moves since labels last went down, after a call that came to this.
@@ -25,13 +25,23 @@ pub fn is_answered(outcome: &Outcome, n: u16, moves: u64, answer: Answer) -> boo
     match outcome {
         Outcome::Printed => answer == Ok(u64::from(n)),
         Outcome::Accepted => answer.is_ok_and(|count| within_square(count, n, moves)),
-        Outcome::Withdrawn => answer == Ok(0),
+        Outcome::Withdrawn | Outcome::Started(_) => answer == Ok(0),
         Outcome::HeldAlready => answer == Err(Rejection::Refused(Refusal::HeldAlready)),
         Outcome::NotHeld => answer == Err(Rejection::Refused(Refusal::NotHeld)),
+        Outcome::StartedAlready => answer == Err(Rejection::Refused(Refusal::Started)),
         Outcome::Blocked(slots) => {
             matches!(answer, Err(Rejection::Blocked(count)) if usize::from(count) == slots.len())
         }
     }
+}
+
+// The board is as it was, but that the order in slot s is started: its count word alone is another.
+fn is_started_in(board: &[u16], before: &[u16], s: u16) -> bool {
+    let count_word = slot_start(s) + 2;
+    board.iter().zip(before).enumerate().all(|(i, (new, old))| {
+        let more = if i == count_word { STARTED } else { 0 };
+        old.checked_add(more) == Some(*new)
+    })
 }
 
 // What a call on a board of n slots left, and the board before it.
@@ -65,12 +75,15 @@ impl Left<'_> {
             && has_marks(self.board, board_size(self.n))
     }
 
-    // The board has the orders that it should, after a withdrawal all with label 1; it is as it was where nothing was accepted.
+    // The board has the orders that it should, the started ones in their slots, after a withdrawal all with label 1; it is as it was where no order
+    // enters, leaves or is started.
     fn orders_are(&self, plan: &Plan) -> bool {
         match plan.outcome {
             Outcome::Accepted => plan.orders.as_slice() == self.orders,
             Outcome::Withdrawn => plan.orders.as_slice() == self.orders
                 && all_new(self.board, self.n),
+            Outcome::Started(s) => plan.orders.as_slice() == self.orders
+                && is_started_in(self.board, self.before, s),
             _ => self.before == self.board,
         }
     }

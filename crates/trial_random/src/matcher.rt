@@ -1,5 +1,5 @@
 // A plain breadth-first matcher over the board as it stands before the call: from the order that is tried to those that have
-// the slots of its list, to the slots of theirs, and so on. Of labels it knows nothing.
+// the slots of its list, to the slots of theirs, and so on; a started order stays where it is. Of labels it knows nothing.
 use std::alloc::{AllocError, Global};
 use trial_kit::slot_at;
 use words::Order;
@@ -56,7 +56,9 @@ pub fn blocked_slots(
         let Some(held) = slot_at(board, s).order else {
             return Ok(None);
         };
-        matcher.visit(&held.row)?;
+        if held.fixed == 0 {
+            matcher.visit(&held.row)?;
+        }
     }
     let mut slots = matcher.queue;
     slots.sort()?;

@@ -1,21 +1,23 @@
 // The next call: what it asks, what it must come to, and which orders it must leave on the board.
-ghost use Rattle.std.specs.Prelude.{◌<◌, IfSome, length};
+ghost use Rattle.std.specs.Prelude.{◌<◌, IfOk, IfSome, length};
 
-use crate::boards::orders_on;
+use crate::boards::{orders_on, seat_of};
 use crate::matcher::blocked_slots;
 use board::Request;
 use std::alloc::{AllocError, Global};
 use trial_kit::{Seed, slot_at};
 use words::Order;
 
-// An order that is not accepted is blocked by these slots, or held already.
+// An order is started in this slot. One that is not accepted is blocked by these slots, or held already.
 #[derive(Drop)]
 pub enum Outcome {
     Printed,
     Accepted,
     Withdrawn,
+    Started(u16),
     HeldAlready,
     NotHeld,
+    StartedAlready,
     Blocked(Vec<u16>),
 }
 
@@ -61,7 +63,7 @@ fn order(seed: &mut Seed, n: u16, number: u16) -> Order {
         count = size;
         s = s.saturating_add(seed.draw(gap) + 1);
     }
-    Order { number, count, row }
+    Order::new(number, count, row)
 }
 
 fn place_of(orders: &[Order], number: u16) -> Option<usize>
@@ -70,17 +72,51 @@ fn place_of(orders: &[Order], number: u16) -> Option<usize>
     orders.iter().position(|order| order.number == number)
 }
 
-// The order of this number is withdrawn, if there is one.
+// The place of the order of this number, or why it is neither withdrawn nor started.
+fn named(orders: &[Order], number: u16) -> Result<usize, Outcome>
+    ensures { IfOk result (λ place. place < length orders.now) }
+{
+    let place = place_of(orders, number).ok_or(Outcome::NotHeld)?;
+    if orders[place].fixed != 0 {
+        return Err(Outcome::StartedAlready);
+    }
+    Ok(place)
+}
+
+// The order of this number is withdrawn, if there is one that is not started.
 fn plan_withdrawal(number: u16, mut orders: Vec<Order>) -> Plan {
-    let outcome = match place_of(&orders, number) {
-        Some(place) => {
+    let outcome = match named(&orders, number) {
+        Ok(place) => {
             orders.remove(place);
             Outcome::Withdrawn
         }
-        None => Outcome::NotHeld,
+        Err(outcome) => outcome,
     };
     Plan {
         request: Request::Withdraw(number),
+        outcome,
+        orders,
+    }
+}
+
+// The order of this number, which sits in slot s, is started if it is not yet: it stays there.
+fn start_in(orders: &mut [Order], number: u16, s: u16) -> Outcome {
+    match named(orders, number) {
+        Ok(place) => {
+            orders[place].fixed = s;
+            Outcome::Started(s)
+        }
+        Err(outcome) => outcome,
+    }
+}
+
+fn plan_start(board: &[u16], n: u16, number: u16, mut orders: Vec<Order>) -> Plan {
+    let outcome = match seat_of(board, n, number) {
+        Some(s) => start_in(&mut orders, number, s),
+        None => Outcome::NotHeld,
+    };
+    Plan {
+        request: Request::Start(number),
         outcome,
         orders,
     }
@@ -109,7 +145,7 @@ fn plan_order(
     })
 }
 
-// Of twenty calls three withdraw, one of them any number; one offers an order that is held; one prints.
+// Of 24 calls three withdraw and two start, one each any number; one offers an order that is held; one prints.
 pub fn next_plan(
     alloc: Global,
     seed: &mut Seed,
@@ -117,13 +153,14 @@ pub fn next_plan(
     n: u16,
 ) -> Result<Plan, AllocError> {
     // A number and no enum: it is drawn, and no kind is kept as one.
-    let kind = seed.draw(20);
-    let number = number(seed, board, n, kind < 3);
+    let kind = seed.draw(24);
+    let number = number(seed, board, n, kind < 4);
     let order = order(seed, n, number);
     let orders = orders_on(alloc, board, n)?;
     match kind {
-        0 | 1 | 3 => Ok(plan_withdrawal(number, orders)),
-        4 => Ok(Plan {
+        0 | 1 | 4 => Ok(plan_withdrawal(number, orders)),
+        2 | 5 => Ok(plan_start(board, n, number, orders)),
+        6 => Ok(Plan {
             request: Request::Print,
             outcome: Outcome::Printed,
             orders,

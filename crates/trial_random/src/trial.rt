@@ -6,7 +6,9 @@ use crate::plan::next_plan;
 use board::{Answer, open_board};
 use std::alloc::Global;
 use std::io;
-use trial_kit::{BOARD, Seed, Tally, WORK, ask, board_size, fill_marks, has_zeros, slot_start};
+use trial_kit::{
+    BOARD, Seed, Tally, WORK, ask, board_size, fill_marks, has_zeros, slot_at, slot_start,
+};
 
 #[derive(Drop)]
 pub struct Trial {
@@ -26,9 +28,22 @@ fn is_opened(board: &[u16], n: u16, answer: Answer) -> bool {
 }
 
 // Four times the board words of n slots, and some more; no size is above 1,024, and so it fits. Written out, and not the library's own.
-// A draw below a draw below this is less than n in about one call of ten.
-fn lowering_range(n: u16) -> u16 {
+// A draw below this is seldom a slot; a draw below a draw below this is less than n in about one call of ten.
+fn rare_range(n: u16) -> u16 {
     4 * (11 * n.min(1024) + 9)
+}
+
+fn is_started(board: &[u16], s: u16) -> bool {
+    slot_at(board, s)
+        .order
+        .is_some_and(|order| order.fixed != 0)
+}
+
+// The label of slot s is at least so high.
+fn raise(board: &mut [u16], s: u16, least: u16) {
+    if let Some(label) = board.get_mut(slot_start(s) + 1) {
+        *label = least.max(*label);
+    }
 }
 
 // Labels are at most so high. Where the board passes the check it still does.
@@ -53,9 +68,18 @@ impl Trial {
         }
     }
 
+    // A started order's slot may have any label: now and then one goes up.
+    fn raise_label(&mut self, n: u16) {
+        let s = self.seed.draw(rare_range(n));
+        let least = self.seed.draw(n) + 1;
+        if (1..=n).contains(&s) && is_started(&self.board, s) {
+            raise(&mut self.board, s, least);
+        }
+    }
+
     // Now and then labels go down, more or less.
     fn lower_labels(&mut self, n: u16) {
-        let many = self.seed.draw(lowering_range(n));
+        let many = self.seed.draw(rare_range(n));
         let most = self.seed.draw(many);
         if most < n {
             lower(&mut self.board, n, most + 1);
@@ -64,9 +88,10 @@ impl Trial {
     }
 
     // Before the call: from time to time a board is opened anew.
-    fn start(&mut self, rt: &impl Print, t: u32, n: u16) -> io::Result<()> {
+    fn begin(&mut self, rt: &impl Print, t: u32, n: u16) -> io::Result<()> {
         self.tally.next_case();
         if t % (5 * u32::from(n) + 40) != 0 {
+            self.raise_label(n);
             self.lower_labels(n);
             return Ok(());
         }
@@ -78,7 +103,7 @@ impl Trial {
 
     // Call t on boards of n slots, with marks in all work words.
     pub fn turn(&mut self, rt: &impl Print, t: u32, n: u16) -> io::Result<()> {
-        self.start(rt, t, n)?;
+        self.begin(rt, t, n)?;
         let copy = self.board;
         let before = copy.as_slice();
         let plan = next_plan(self.alloc, &mut self.seed, before, n)?;
@@ -97,7 +122,7 @@ impl Trial {
         let right = is_answered(&plan.outcome, n, self.moves, answer);
         self.tally.check(rt, 'r', right)?;
         self.tally.note(rt, wrong)?;
-        self.counts.count(&plan, answer);
+        self.counts.count(&plan, &left, answer);
         Ok(())
     }
 

@@ -4,22 +4,19 @@
 ghost use Rattle.std.specs.Prelude.{◌≡◌};
 ghost use Rattle.withdrawing.specs.TakesOut.{TakesOut};
 
-use answers::{Answer, Refusal};
-use checking::find;
+use answers::Answer;
+use checking::named_slot;
 use relabelling::relabel_all;
 use storing::{put_free, put_held};
-use words::{NO_ORDER, held_of, size_of};
+use words::{held_of, size_of};
 
-// The order goes, or is not there. No work word is looked at.
-#[tactic(auto, using(crate::proofs::Gate::taken))]
+// The order goes, or the withdrawal is turned down. No work word is looked at.
+#[tactic(auto, using(crate::proofs::Gate::takes))]
 pub fn take_out(board: &mut [u16], number: u16) -> Answer
     ensures { TakesOut number board.old result board.new }
 {
-    if number == NO_ORDER {
-        return Err(Refusal::NumberZero.into());
-    }
+    let slot = named_slot(board, number)?;
     let n = size_of(board);
-    let slot = find(board, n, number).ok_or(Refusal::NotHeld)?;
     let held = held_of(board);
     put_free(board, slot);
     relabel_all(board, n);

@@ -143,7 +143,7 @@ pub fn close(t: Tally, out: &mut [u8]) -> usize
     cursor.at
 }
 
-// The order writer. Refused, it writes nothing.
+// The order writer. Refused, it writes nothing. A line has no place for the mark: of a started order, too, the list is written.
 #[tactic(auto, using(crate::proofs::Orders::orders))]
 pub fn write_order(buffer: &mut [u8], order: Order) -> Result<usize, Refusal>
     ensures { wrote_of result buffer.new

@@ -1,0 +1,9 @@
+-- What a start answers and leaves past the gate. It is lent no work words: whatever they are, they stay.
+use Rattle.std.specs.Prelude.{List, ◌≡◌, ℕ, Result}
+use Rattle.rules.specs.Calls.{start-order}
+use Rattle.rules.specs.Known.{past_gate}
+use Rattle.answers.specs.Numbers.{said}
+use Rattle.answers.specs.declared.Rejection.{Rejection}
+
+abbrev pub Starts : ℕ → List ℕ → Result ℕ Rejection → List ℕ → Type 0
+Starts number w r w' = (work : List ℕ) → said r w' work ≡ past_gate (start-order number) w work
