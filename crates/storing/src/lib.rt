@@ -14,10 +14,12 @@ ghost use Rattle.rules.specs.Layout.{
   slot_record,
   free_slot,
 };
-ghost use Rattle.words.specs.Carried.{carried};
+ghost use Rattle.words.specs.Carried.{carried, carried_at};
 
 use std::array;
-use words::{COUNT, HELD, LABEL, MOST_CHOICES, NO_SLOT, Order, SIZE, SLOT_WORDS, start_of};
+use words::{
+    COUNT, HELD, LABEL, MOST_CHOICES, NO_SLOT, Order, SIZE, SLOT_WORDS, order_at, start_of,
+};
 
 // The row with 0 beyond the count. By a product: with a branch for each choice, or a `fill`, a turn of the search takes longer.
 fn padded(order: &Order) -> [u16; MOST_CHOICES]
@@ -60,20 +62,27 @@ fn put_record(board: &mut [u16], s: u16, contents: &[u16; SLOT_WORDS])
     }
 }
 
-// The order goes into slot s, which gets this label. Where all the words are there and the order is not started, as mostly in the search, what stands before
-// the row and the row are copied by themselves, and the count word is the count: a turn of the search with a record copied whole takes twice the time, and
-// with a mark that may be or not be a third more. (At most eight: the cast loses nothing.)
-pub fn put_order(board: &mut [u16], s: u16, label: u16, order: &Order)
-    ensures { board.new ≡ sets board.old (base s) (slot_record (carried order.now) label) }
+// The order goes into slot s, which gets this label, and becomes what stood there: so the row of the one that is displaced is copied once, from the board to
+// where the next turn of the search reads it. Where all the words are there and the order is not started, as mostly in the search, what stands before the
+// row and the row are stored by themselves, and the count word is the count: a turn with a record copied whole takes twice the time, and with a mark that may
+// be or not be a third more. (At most eight: the cast loses nothing.)
+pub fn displace(board: &mut [u16], s: u16, label: u16, order: &mut Order)
+    ensures left { order.new ≡ carried_at board.old s }
+    ensures stored { board.new ≡ sets board.old (base s) (slot_record (carried order.old) label) }
 {
     let start = start_of(s);
     let end = start + SLOT_WORDS;
     if order.fixed == NO_SLOT && end <= board.len() {
+        let front = [order.number, label, order.list().len() as u16];
+        let choices = padded(order);
+        *order = order_at(board, s);
         let row = end - MOST_CHOICES;
-        board[start..row].copy_from_slice(&[order.number, label, order.list().len() as u16]);
-        board[row..end].copy_from_slice(&padded(order));
+        board[start..row].copy_from_slice(&front);
+        board[row..end].copy_from_slice(&choices);
     } else {
-        put_record(board, s, &record_of(order, label));
+        let contents = record_of(order, label);
+        *order = order_at(board, s);
+        put_record(board, s, &contents);
     }
 }
 

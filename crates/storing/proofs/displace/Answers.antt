@@ -4,10 +4,10 @@ use Rattle.rules.specs.Layout.{base, started_mark, count_word_of, row8}
 use Rattle.rules.proofs.WordLaws.{length-row8}
 use Rattle.words.specs.Carried.{carried}
 use Rattle.storing.proofs.Stores.{sets-both}
-use Rattle.storing.proofs.put_order.Goals as goal
+use Rattle.storing.proofs.displace.Goals as goal
 
-pub returns-then-end-board : goal.returns-then-end-board
-returns-then-end-board c =
+pub returns-then-end-board-clause-stored : goal.returns-then-end-board-clause-stored
+returns-then-end-board-clause-stored c =
     let b = c.args.board.now in
     let o = c.args.order.now in
     let front = c.copy_from_slice.new.self in
@@ -17,7 +17,7 @@ returns-then-end-board c =
     let unmarked : length (carried o).list ≡ count_word_of (carried o) = omega (arith, none) in
     let counted : front ≡ o.number ∷ c.args.label ∷ length (carried o).list ∷ [] = cc (c.copy_from_slice.ensures.after, c.list.ensures) in
     let head : front ≡ o.number ∷ c.args.label ∷ count_word_of (carried o) ∷ [] = counted ∙ ap (λ (k : ℕ). o.number ∷ c.args.label ∷ k ∷ []) unmarked in
-    let row : back ≡ row8 (carried o).list = c.copy_from_slice-then-end-board.ensures.after ∙ c.padded.ensures in
+    let row : back ≡ row8 (carried o).list = c.copy_from_slice-then-end-board.ensures.after ∙ c.padded-choices.ensures in
     let three : length front ≡ 3 = ap length head in
     let eight : length back ≡ 8 = ap length row ∙ length-row8 (carried o).list in
     let place : at ≡ base c.args.s = cc c.start_of-start.ensures in
