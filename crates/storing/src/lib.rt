@@ -64,8 +64,8 @@ fn put_record(board: &mut [u16], s: u16, contents: &[u16; SLOT_WORDS])
 
 // The order goes into slot s, which gets this label, and becomes what stood there: so the row of the one that is displaced is copied once, from the board to
 // where the next turn of the search reads it. Where all the words are there and the order is not started, as mostly in the search, what stands before the
-// row and the row are stored by themselves, and the count word is the count: a turn with a record copied whole takes twice the time, and with a mark that may
-// be or not be a third more. (At most eight: the cast loses nothing.)
+// row and the row are stored by themselves, and the count word is the count: a record copied whole, or a mark that may be or not be, makes a turn longer.
+// (At most eight: the cast loses nothing.)
 pub fn displace(board: &mut [u16], s: u16, label: u16, order: &mut Order)
     ensures left { order.new ≡ carried_at board.old s }
     ensures stored { board.new ≡ sets board.old (base s) (slot_record (carried order.old) label) }
