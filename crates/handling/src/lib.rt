@@ -4,12 +4,13 @@
 #![tactic(auto)]
 
 ghost use Rattle.std.specs.Prelude.{◌≡◌, List, ℕ};
-ghost use Rattle.rules.specs.Runs.{first_number, handle_line};
+ghost use Rattle.std.specs.Option.{option_map};
+ghost use Rattle.rules.specs.Runs.{first_number, handle_line, noted};
 ghost use Rattle.answers.specs.Numbers.{said};
-ghost use Rattle.answers.specs.Values.{state_of, handled_of};
+ghost use Rattle.answers.specs.Values.{counts_of, state_of, handled_of};
 ghost use Rattle.board.specs.Requests.{call_for};
 ghost use Rattle.reading.specs.Reading.{kind_letter};
-ghost use Rattle.handling.specs.Turns.{Asks, Shows, Turns, line_call};
+ghost use Rattle.handling.specs.Turns.{AnswersTo, Asks, Shows, Turns, line_call};
 
 use answers::{Answer, Reply, Tally, replied, unread_line};
 use board::{Request, perform};
@@ -17,16 +18,28 @@ use checking::{Known, assess};
 use reading::{Kind, Line, read_line};
 use words::held_of;
 
-// What a line asks for.
-fn request_of(line: &Line) -> Request
-    ensures { call_for result ≡ line_call line.now }
+// The call that a line asks for. Z asks for none.
+fn request_of(line: &Line) -> Option<Request>
+    ensures { option_map call_for result ≡ line_call line.now }
 {
     match line.kind {
-        Kind::Open => Request::Open(line.columns[0]),
-        Kind::Accept => Request::Accept(line.order()),
-        Kind::Withdraw => Request::Withdraw(line.columns[0]),
-        Kind::Start => Request::Start(line.columns[0]),
-        Kind::Print => Request::Print,
+        Kind::Open => Some(Request::Open(line.columns[0])),
+        Kind::Accept => Some(Request::Accept(line.order())),
+        Kind::Withdraw => Some(Request::Withdraw(line.columns[0])),
+        Kind::Start => Some(Request::Start(line.columns[0])),
+        Kind::Print => Some(Request::Print),
+        Kind::Total => None,
+    }
+}
+
+// The answer to a line that is read: its call's; or, to Z, that of the day's tally.
+#[tactic(auto, using(crate::proofs::ReadLines::total_answered))]
+fn answer_to(line: &Line, board: &mut [u16], work: &mut [u16], tally: &Tally, known: &mut Known) -> Answer
+    ensures { AnswersTo line.now known.old (state_of board.old work.old tally.now) result known.new board.new work.new }
+{
+    match request_of(line) {
+        Some(request) => perform(&request, board, work, known),
+        None => tally.closing(line.columns[0], line.columns[1]),
     }
 }
 
@@ -35,11 +48,22 @@ fn shown_number(line: &Line, answer: Answer, board: &[u16]) -> u16
     ensures { Shows line.now answer board.now result }
 {
     match line.kind {
-        Kind::Open | Kind::Accept | Kind::Withdraw | Kind::Start => line.columns[0],
+        Kind::Open | Kind::Accept | Kind::Withdraw | Kind::Start | Kind::Total => line.columns[0],
         Kind::Print => match answer {
             Ok(_) => held_of(board),
             Err(_) => 0,
         },
+    }
+}
+
+// What a line that is read does to the control total, whatever it is answered.
+fn note_line(line: &Line, tally: &mut Tally)
+    ensures { counts_of tally.new ≡ noted (kind_letter line.now.kind) line.now.columns (counts_of tally.old) }
+{
+    match line.kind {
+        Kind::Accept => tally.note_order(line.columns[0]),
+        Kind::Total => tally.restart_total(),
+        Kind::Open | Kind::Withdraw | Kind::Start | Kind::Print => (),
     }
 }
 
@@ -53,10 +77,11 @@ fn asked_line(
 ) -> Reply
     ensures { Asks line.now known.old (state_of board.old work.old tally.old) result known.new tally.new board.new work.new }
 {
-    let request = request_of(line);
-    let answer = perform(&request, board, work, known);
+    let answer = answer_to(line, board, work, tally, known);
     let number = shown_number(line, answer, board);
-    replied(line.kind.letter(), number, answer, tally)
+    let reply = replied(line.kind.letter(), number, answer, tally);
+    note_line(line, tally);
+    reply
 }
 
 // A line, without its line feed, by what is known. The tally is brought up to date.

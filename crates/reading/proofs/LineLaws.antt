@@ -9,7 +9,7 @@ use Rattle.std.proofs.lemmas.Bool.{le-leb, eq-eqb, ne_eqb, leb-true, eqb-true, a
 use Rattle.std.proofs.lemmas.List.{length-map}
 use Rattle.matching.specs.Lists.{all, any}
 use Rattle.rules.specs.InputLines.{column_bytes, is_column, column_value, letter_of, column_count, columns_from, allowed, well_formed, values, line_refusal}
-use Rattle.rules.specs.Letters.{Letter, letter_s, letter_a, letter_w, letter_f, letter_p, letter_x, letter_named}
+use Rattle.rules.specs.Letters.{Letter, letter_s, letter_a, letter_w, letter_f, letter_p, letter_z, letter_x, letter_named}
 use Rattle.answers.specs.declared.Refusal.TheVariants.{Malformed, TooLarge}
 use Rattle.reading.specs.declared.Kind.{Kind}
 use Rattle.reading.specs.Reading.{kind_of, class_of, ten_columns, line_read, line_of}
@@ -45,6 +45,7 @@ allowed-known letter_a c h e = cc
 allowed-known letter_w c h e = cc
 allowed-known letter_f c h e = cc
 allowed-known letter_p c h e = cc
+allowed-known letter_z c h e = cc
 allowed-known letter_x c h e = cc
 
 allowed-few : (x : Letter) (c : ℕ) → allowed x c ≡ true → c ≤ 10
@@ -53,6 +54,7 @@ allowed-few letter_a c h = leb-true c 10 (and_parts (leb 1 c) (leb c 10) h).1
 allowed-few letter_w c h = omega (arith, eqb-true c 1 h)
 allowed-few letter_f c h = omega (arith, eqb-true c 1 h)
 allowed-few letter_p c h = omega (arith, eqb-true c 0 h)
+allowed-few letter_z c h = omega (arith, eqb-true c 2 h)
 allowed-few letter_x c h = absurd cc
 
 -- ---- the columns from a position on are the line's

@@ -6,7 +6,7 @@ use Rattle.std.proofs.lemmas.Bool.{leb-true, eqb-true, eqb-false, and_parts}
 use Rattle.std.proofs.lemmas.List.{length-map, take-replicate, get_or-take, get_or-drop}
 use Rattle.rules.specs.Layout.{most_choices, reads, row8}
 use Rattle.rules.specs.InputLines.{column_value, letter_of, column_count, columns_from, most_bytes, allowed, well_formed, values, line_refusal}
-use Rattle.rules.specs.Letters.{Letter, letter_s, letter_a, letter_w, letter_f, letter_p, letter_x}
+use Rattle.rules.specs.Letters.{Letter, letter_s, letter_a, letter_w, letter_f, letter_p, letter_z, letter_x}
 use Rattle.rules.proofs.Cutting.{either}
 use Rattle.rules.proofs.WordLaws.{reads-is, length-row8}
 use Rattle.answers.specs.Numbers.{code}
@@ -14,7 +14,7 @@ use Rattle.answers.specs.declared.Refusal.{Refusal}
 use Rattle.answers.specs.declared.Refusal.TheVariants.{Malformed}
 use Rattle.reading.specs.declared.Kind.{Kind}
 use Rattle.reading.proofs.LineLaws.{allowed-known}
-use Rattle.reading.specs.declared.Kind.TheVariants.{Open, Accept, Withdraw, Start, Print}
+use Rattle.reading.specs.declared.Kind.TheVariants.{Open, Accept, Withdraw, Start, Print, Total}
 use Rattle.reading.specs.declared.Line.{Line}
 use Rattle.reading.specs.Reading.{kind_letter, kind_of, refused_as, most_columns, ten_columns, line_read, line_of, line_order}
 
@@ -52,6 +52,11 @@ pub first-column : (vs : List ℕ) → get_or (ten_columns vs) 0 0 ≡ get_or vs
 first-column [] = refl
 first-column (v ∷ vs) = refl
 
+pub second-column : (vs : List ℕ) → get_or (ten_columns vs) 1 0 ≡ get_or vs 1 0
+second-column [] = refl
+second-column (v ∷ []) = refl
+second-column (v ∷ u ∷ vs) = refl
+
 more-zeros : (k a b : ℕ) (vs : List ℕ) → k ≤ a → k ≤ b → take k (vs ++ replicate a 0) ≡ take k (vs ++ replicate b 0)
 more-zeros k a b [] h g = take-replicate {X = ℕ} k a 0 h ∙ sym (take-replicate {X = ℕ} k b 0 g)
 more-zeros zero a b (v ∷ vs) h g = refl
@@ -81,6 +86,7 @@ by-letter letter_a l line e = (Accept, refl, cc)
 by-letter letter_w l line e = (Withdraw, refl, cc)
 by-letter letter_f l line e = (Start, refl, cc)
 by-letter letter_p l line e = (Print, refl, cc)
+by-letter letter_z l line e = (Total, refl, cc)
 by-letter letter_x l line e = absurd cc
 
 pub reads-as : (l : List ℕ) (line : Line) → line_of l ≡ Ok line → ReadsAs l line

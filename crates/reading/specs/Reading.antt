@@ -3,12 +3,12 @@ use Rattle.std.specs.Prelude.{cond, List, ◌++◌, ℕ, ◌-◌, Option, Some, 
 use Rattle.std.specs.Option.{ok_or, option_map}
 use Rattle.rules.specs.InputLines.{letter_of, column_count, allowed, values, line_refusal}
 use Rattle.rules.specs.Layout.{most_choices, reads}
-use Rattle.rules.specs.Letters.{Letter, letter_s, letter_a, letter_w, letter_f, letter_p, letter_x}
+use Rattle.rules.specs.Letters.{Letter, letter_s, letter_a, letter_w, letter_f, letter_p, letter_z, letter_x}
 use Rattle.answers.specs.declared.Refusal.{Refusal}
 use Rattle.answers.specs.declared.Refusal.TheVariants.{Malformed, TooLarge}
 use Rattle.words.specs.declared.Order.{Order}
 use Rattle.reading.specs.declared.Kind.{Kind}
-use Rattle.reading.specs.declared.Kind.TheVariants.{Open, Accept, Withdraw, Start, Print}
+use Rattle.reading.specs.declared.Kind.TheVariants.{Open, Accept, Withdraw, Start, Print, Total}
 use Rattle.reading.specs.declared.Line.{Line}
 
 -- ---- the document's letter of every kind, and back
@@ -19,6 +19,7 @@ kind_letter Accept = letter_a
 kind_letter Withdraw = letter_w
 kind_letter Start = letter_f
 kind_letter Print = letter_p
+kind_letter Total = letter_z
 
 abbrev pub kind_of : Letter → Option Kind
 kind_of letter_s = Some Open
@@ -26,6 +27,7 @@ kind_of letter_a = Some Accept
 kind_of letter_w = Some Withdraw
 kind_of letter_f = Some Start
 kind_of letter_p = Some Print
+kind_of letter_z = Some Total
 kind_of letter_x = None
 
 -- "Each letter has its own allowed count of columns"

@@ -21,6 +21,7 @@ pub enum Kind {
     Withdraw,
     Start,
     Print,
+    Total,
 }
 
 impl Kind {
@@ -36,6 +37,7 @@ impl Kind {
             (b'W', 1) => Some(Kind::Withdraw),
             (b'F', 1) => Some(Kind::Start),
             (b'P', 0) => Some(Kind::Print),
+            (b'Z', 2) => Some(Kind::Total),
             _ => None,
         }
     }
@@ -50,6 +52,7 @@ impl Kind {
             Kind::Withdraw => b'W',
             Kind::Start => b'F',
             Kind::Print => b'P',
+            Kind::Total => b'Z',
         }
     }
 }

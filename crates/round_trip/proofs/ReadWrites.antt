@@ -1,5 +1,5 @@
 -- A line that was read, and what is written of it.
-use Rattle.std.proofs.Common.{◌≡◌, ℕ, ◌+◌, ◌-◌, ◌≤◌, List, [], Result, Ok, Err, length, get_or, drop, refl, sym, ap, ◌∙◌, arith}
+use Rattle.std.proofs.Common.{◌≡◌, ℕ, ◌+◌, ◌-◌, ◌≤◌, List, [], Option, Some, Result, Ok, Err, length, get_or, drop, refl, sym, ap, ◌∙◌, arith}
 use Rattle.std.proofs.lemmas.Bool.{ne_eqb}
 use Rattle.rules.specs.Calls.{Call, accept, first, order_checks}
 use Rattle.rules.specs.InputLines.{letter_of, values, line_refusal, call_of}
@@ -14,7 +14,7 @@ use Rattle.answers.specs.declared.Refusal.{Refusal}
 use Rattle.words.specs.declared.Order.{Order}
 use Rattle.reading.specs.Reading.{kind_letter, line_of}
 use Rattle.reading.specs.declared.Kind.{Kind}
-use Rattle.reading.specs.declared.Kind.TheVariants.{Open, Accept, Withdraw, Start, Print}
+use Rattle.reading.specs.declared.Kind.TheVariants.{Open, Accept, Withdraw, Start, Print, Total}
 use Rattle.reading.specs.declared.Line.{Line}
 use Rattle.reading.proofs.LineUses.{reads-as, refused-as}
 use Rattle.round_trip.specs.ReadWrite.{unwritten, call_written, rewritten, kind_written, read_written}
@@ -37,6 +37,7 @@ module _ (l buffer : List ℕ) where
   by_kind Withdraw vs = refl
   by_kind Start vs = refl
   by_kind Print vs = refl
+  by_kind Total vs = refl
 
   taken-written : (line : Line) → line_of l ≡ Ok line → read_written (Ok line) buffer ≡ rewritten l buffer
   taken-written line e =
@@ -52,18 +53,18 @@ module _ (l buffer : List ℕ) where
       go (Err why) e = refused-written why e
 
   -- an A line whose order passes 7 to 10, and one that is accepted
-  pub line_back : (line : Line) (k c : ℕ) (row : List ℕ) → line_of l ≡ Ok line → line.kind ≡ Accept → call_of (letter_of l) (values l) ≡ accept k c row → first (order_checks most_slots k c row []) ≡ 0 → length l + 1 ≤ length buffer
+  pub line_back : (line : Line) (k c : ℕ) (row : List ℕ) → line_of l ≡ Ok line → line.kind ≡ Accept → call_of (letter_of l) (values l) ≡ Some (accept k c row) → first (order_checks most_slots k c row []) ≡ 0 → length l + 1 ≤ length buffer
       → rewritten l buffer ≡ line_written l buffer
   unfolding WritesBack
   line_back line k c row e kind call clear room =
       let read = reads-as l line e in
       let letter : letter_of l ≡ letter_a = sym read.letter ∙ ap kind_letter kind in
-      call-written read.taken ∙ ap (λ (q : Call). call_written q buffer) call ∙ (writes-back l k c row read.taken letter call clear).stored buffer room
+      call-written read.taken ∙ ap (λ (q : Option Call). call_written q buffer) call ∙ (writes-back l k c row read.taken letter call clear).stored buffer room
 
   pub accepted_back : (s : State) → AcceptedOrder l s → length l + 1 ≤ length buffer → rewritten l buffer ≡ line_written l buffer
   unfolding AcceptedWritesBack
   accepted_back s a room =
       let w = accepted-writes-back l s a in
-      call-written w.taken ∙ ap (λ (q : Call). call_written q buffer) w.asks ∙ w.wrote.stored buffer room
+      call-written w.taken ∙ ap (λ (q : Option Call). call_written q buffer) w.asks ∙ w.wrote.stored buffer room
 
 pub ruleset rewrites = (line_rewritten, line_back, accepted_back)

@@ -37,7 +37,7 @@ fn write_line(line: Result<Line, Refusal>, buffer: &mut [u8]) -> Result<usize, R
     let line = line?;
     match line.kind {
         Kind::Accept => write_order(buffer, line.order()),
-        Kind::Open | Kind::Withdraw | Kind::Start | Kind::Print => Ok(0),
+        Kind::Open | Kind::Withdraw | Kind::Start | Kind::Print | Kind::Total => Ok(0),
     }
 }
 

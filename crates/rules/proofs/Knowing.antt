@@ -8,13 +8,14 @@ use native.Mathlib.Omega.{arith}
 use lib.Dec.{eqb, ltb, leb}
 use lib.ListN.{length, set}
 use borrow.Author.Tests.{le-leb, lt-leb, le-ltb, ne_eqb}
+use Rattle.std.specs.Prelude.{Option, Some, None}
 use Rattle.matching.specs.Blocking.{blocked}
 use Rattle.matching.specs.Orders.{Order, seats}
 use Rattle.matching.specs.Placing.{Result, accepted, refused, unfinished, place}
 use Rattle.rules.specs.Calls.{Call, Answer, order, open-board, accept, withdraw, start-order, print, first, early, late, checks, board_checks, open_checks, cleared, shown, refused_late, undecided, finished, act, step}
 use Rattle.rules.specs.Check.{passes}
 use Rattle.rules.specs.Known.{Known, Knows, Zeros, perform_known, swept, shown_by, known_opened, known_after}
-use Rattle.rules.specs.KnownLines.{asked, handle_known, known_line}
+use Rattle.rules.specs.KnownLines.{asked, handle_known, known_by, known_line}
 use Rattle.rules.specs.Layout.{word, size, held_word, held_count, most_slots, board_words, work_words, view, write_at}
 use Rattle.rules.specs.Ledger.{ledger_of}
 use Rattle.rules.specs.InputLines.{letter_of, values, line_refusal}
@@ -188,15 +189,22 @@ pub record Lines (k : Known) (l : List ℕ) (s : R.State) : Type 0 where
 pub lines : (k : Known) (l : List ℕ) (s : R.State) → Knows k s.board s.work → Lines k l s
 unfolding handle_known known_line R.handle_line
 lines k l s know = record {
-  same = ap (λ (r : Answer). let read : R.Handled = R.answered (letter_of l) (values l) s r in cond (eqb (line_refusal l) 0) read (R.unread (line_refusal l) s)) p;
+  same = ap (λ (r : Answer). let read : R.Handled = R.answered (letter_of l) (values l) s r in cond (eqb (line_refusal l) 0) read (R.unread (line_refusal l) s)) (performed (asked l));
   known = go (eqb (line_refusal l) 0);
 }
   where
-    p : perform_known k (asked l) s.board s.work ≡ step (asked l) s.board s.work
-    p = performs k s.board s.work know (asked l)
+    by_step : Option Call → Answer
+    by_step o = R.answer_by (λ q. step q s.board s.work) o (values l) s
 
-    go : (b : Bool) → let r : Answer = step (asked l) s.board s.work in
-        let h : R.Handled = cond b (R.answered (letter_of l) (values l) s r) (R.unread (line_refusal l) s) in
-        Knows (cond b (known_after k (asked l) s.board s.work) k) h.state.board h.state.work
-    go true = after k s.board s.work know (asked l)
+    performed : (o : Option Call) → R.answer_by (λ q. perform_known k q s.board s.work) o (values l) s ≡ by_step o
+    performed (Some q) = performs k s.board s.work know q
+    performed None = refl
+
+    stays : (o : Option Call) → Knows (known_by k o s) (by_step o).board (by_step o).work
+    stays (Some q) = after k s.board s.work know q
+    stays None = know
+
+    go : (b : Bool) → let h : R.Handled = cond b (R.answered (letter_of l) (values l) s (by_step (asked l))) (R.unread (line_refusal l) s) in
+        Knows (cond b (known_by k (asked l) s) k) h.state.board h.state.work
+    go true = stays (asked l)
     go false = know

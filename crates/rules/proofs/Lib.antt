@@ -20,10 +20,12 @@ pub mod Judging
 pub mod Main
 pub mod Cases
 pub mod Example
+pub mod ClosingRuns
 pub mod Cutting
 pub mod Streams
 pub mod TextLaws
 pub mod RoundTrip
 pub mod ReplyLengths
+pub mod Totals
 pub mod Days
 pub mod Serving

@@ -1,10 +1,10 @@
 -- Document 01, "Lines from the printers": a line's bytes, without its line feed, as a call; and an order as its line.
-use Rattle.std.specs.Prelude.{Bool, false, not, ◌&&◌, cond, List, [], ◌∷◌, map, ℕ, zero, suc, ◌+◌, ◌-◌, ◌*◌, ◌/◌, eqb, ltb, leb, length, get_or, take, drop}
+use Rattle.std.specs.Prelude.{Bool, false, not, ◌&&◌, cond, List, [], ◌∷◌, map, ℕ, zero, suc, ◌+◌, ◌-◌, ◌*◌, ◌/◌, Option, Some, None, eqb, ltb, leb, length, get_or, take, drop}
 use Rattle.std.proofs.lemmas.List.Edits.{sets}
 use Rattle.matching.specs.Lists.{all, any}
 use Rattle.rules.specs.Layout.{most_slots, row8}
 use Rattle.rules.specs.Calls.{Call, open-board, accept, withdraw, start-order, print, order, Check, first, order_checks}
-use Rattle.rules.specs.Letters.{Letter, letter_s, letter_a, letter_w, letter_f, letter_p, letter_x, byte_of, letter_named}
+use Rattle.rules.specs.Letters.{Letter, letter_s, letter_a, letter_w, letter_f, letter_p, letter_z, letter_x, byte_of, letter_named}
 use Rattle.rules.specs.Text.{space, text_line}
 
 -- ---- "A column is none to five spaces, then a decimal number without leading zeros (a lone 0 is allowed)."
@@ -55,13 +55,14 @@ columns_from l i zero = []
 columns_from l i (suc k) = column_at l i ∷ columns_from l (i + 1) k
 
 -- "S has one column, n. A has one to ten: order number, then slots. W has one, the order number. P has none." P1: "Line F with an order number".
--- "Each letter has its own allowed count of columns": what begins no line has none.
+-- P2: "Line Z gives the count of A lines and the sum of their order numbers". "Each letter has its own allowed count of columns": what begins no line has none.
 abbrev pub allowed : Letter → ℕ → Bool
 allowed letter_s count = eqb count 1
 allowed letter_a count = leb 1 count && leb count 10
 allowed letter_w count = eqb count 1
 allowed letter_f count = eqb count 1
 allowed letter_p count = eqb count 0
+allowed letter_z count = eqb count 2
 allowed letter_x count = false
 
 -- "one with more than 61 bytes before its line feed" gets refusal 1
@@ -84,14 +85,15 @@ unfolding well_formed values
 line_refusal l = first ((1, not (well_formed l)) ∷ (2, any (ltb 65535) (values l)) ∷ [])
 
 -- the call that a letter and its numbers ask for. An A line's first eight slots travel as its row; 8 refuses a ninth before the row is looked at.
--- What begins no line asks for nothing (refusal 1 comes before); a print stands for it.
-unfoldable pub call_of : Letter → List ℕ → Call
-call_of letter_s vs = open-board (get_or vs 0 0)
-call_of letter_a vs = accept (get_or vs 0 0) (length vs - 1) (row8 (drop 1 vs))
-call_of letter_w vs = withdraw (get_or vs 0 0)
-call_of letter_f vs = start-order (get_or vs 0 0)
-call_of letter_p vs = print
-call_of letter_x vs = print
+-- Z asks for none, as it reads no board; nor does what begins no line.
+unfoldable pub call_of : Letter → List ℕ → Option Call
+call_of letter_s vs = Some (open-board (get_or vs 0 0))
+call_of letter_a vs = Some (accept (get_or vs 0 0) (length vs - 1) (row8 (drop 1 vs)))
+call_of letter_w vs = Some (withdraw (get_or vs 0 0))
+call_of letter_f vs = Some (start-order (get_or vs 0 0))
+call_of letter_p vs = Some print
+call_of letter_z vs = None
+call_of letter_x vs = None
 
 -- ---- the order writer
 
