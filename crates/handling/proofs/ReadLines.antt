@@ -1,5 +1,5 @@
 -- What the reader gives of a line, against the line's own call.
-use Rattle.std.proofs.Common.{◌≡◌, ℕ, ◌+◌, ◌%◌, Bool, not, ◌&&◌, eqb, List, [], ◌∷◌, Option, Some, None, Result, Ok, Err, get_or, refl, sym, ap, ◌∙◌, arith}
+use Rattle.std.proofs.Common.{◌≡◌, ℕ, ◌+◌, ◌%◌, not, ◌&&◌, eqb, List, [], ◌∷◌, Option, Some, None, Result, Ok, Err, get_or, refl, sym, ap, ◌∙◌, arith}
 use Rattle.std.proofs.lemmas.Bool.{ne_eqb}
 use Rattle.rules.specs.Bringing.{answer}
 use Rattle.rules.specs.Calls as Calls
@@ -108,7 +108,7 @@ module _ (l : List ℕ) (r : Result Line Refusal) (given : r ≡ line_of l) wher
       known = rw gives.taken (asks.known ∙ ap (λ (q : Option Call). known_by (known_of k) q s) call-is);
     }
 
--- ---- a line that is not
+  -- ---- a line that is not
 
   pub turns_unread : (why : Refusal) → r ≡ Err why → (k : Known) (b w : List ℕ) {p : Reply} {t t' : Tally} → LeavesUnread (code why) t p t' → Turns l k (state_of b w t) p k t' b w
   unfolding handle_known known_line

@@ -6,7 +6,7 @@ use Rattle.rules.specs.Known.{perform_known}
 use Rattle.rules.specs.KnownLines.{handle_known, known_by, known_line}
 use Rattle.rules.specs.Runs as R
 use Rattle.answers.specs.Numbers.{said}
-use Rattle.answers.specs.Values.{state_of, handled_of}
+use Rattle.answers.specs.Values.{handled_of}
 use Rattle.answers.specs.declared.Rejection.{Rejection}
 use Rattle.answers.specs.declared.Reply.{Reply}
 use Rattle.answers.specs.declared.Tally.{Tally}

@@ -34,7 +34,13 @@ fn request_of(line: &Line) -> Option<Request>
 
 // The answer to a line that is read: its call's; or, to Z, that of the day's tally.
 #[tactic(auto, using(crate::proofs::ReadLines::total_answered))]
-fn answer_to(line: &Line, board: &mut [u16], work: &mut [u16], tally: &Tally, known: &mut Known) -> Answer
+fn answer_to(
+    line: &Line,
+    board: &mut [u16],
+    work: &mut [u16],
+    tally: &Tally,
+    known: &mut Known,
+) -> Answer
     ensures { AnswersTo line.now known.old (state_of board.old work.old tally.now) result known.new board.new work.new }
 {
     match request_of(line) {

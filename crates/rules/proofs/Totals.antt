@@ -1,22 +1,22 @@
 -- The control total of a run: what the tally holds after any lines, and what Z is answered.
-use mathlib.Core.Bool.{Bool, true, false, not, ◌&&◌, ◌||◌, cond}
+use mathlib.Core.Bool.{Bool, true, false, not, ◌&&◌, cond}
 use mathlib.Core.List.{List, [], ◌∷◌}
-use mathlib.Core.Path.{◌≡◌, refl, sym, ap, ◌∙◌}
+use mathlib.Core.Path.{◌≡◌, refl, ap, ◌∙◌}
 use Prim.Native.Nat.{ℕ, ◌+◌, ◌%◌}
 use native.Mathlib.Omega.{arith}
 use native.Mathlib.Nat.{zero-add}
 use lib.Dec.{T, eqb, eqb→eq}
 use lib.ListN.{length, get_or}
-use Rattle.std.specs.Prelude.{Option, Some, None, fold, sum}
+use Rattle.std.specs.Prelude.{fold}
 use Rattle.matching.specs.Lists.{any}
 use Rattle.matching.proofs.Counting.{and_l, and_r}
 use Rattle.rules.specs.AnswerLines.{Reply}
-use Rattle.rules.specs.Calls.{Call, Answer, Check, first, step}
+use Rattle.rules.specs.Calls.{Answer, Check, first}
 use Rattle.rules.specs.Ledger.{ok}
 use Rattle.rules.specs.InputLines.{letter_of, values, line_refusal, call_of}
 use Rattle.rules.specs.Letters.{Letter, letter_s, letter_a, letter_w, letter_f, letter_p, letter_z, letter_x, byte_of}
-use Rattle.rules.specs.Runs.{Counts, counted, noted, State, Handled, Item, line, spoilt, unread, answered, closing, answer_by, handle_line, handle, run, figures}
-use Rattle.rules.specs.Totals.{is_read, since_z, number_of, a_numbers, count_after, sum_after, Totalled, Closes, ControlTotal, TotalsHold}
+use Rattle.rules.specs.Runs.{Counts, counted, noted, State, Handled, Item, line, spoilt, unread, answered, closing, handle_line, handle, run, figures}
+use Rattle.rules.specs.Totals.{is_read, since_z, number_of, a_numbers, count_after, sum_after, Totalled, Closes, TotalsHold}
 use Rattle.rules.proofs.Letters.{byte-tells}
 use Rattle.rules.proofs.ReplyLengths.{read_answer}
 
@@ -85,9 +85,10 @@ module _ (i : Item) (is : List Item) (a b : ℕ) where
     where
       go : (z c : Bool) → Adds t t' z c (number_of i) → (t'.orders ≡ cond z 0 (cond c (a + 1) a) % figures) × (t'.numbers ≡ cond z 0 (cond c (b + number_of i) b) % figures)
       go true c adds = (adds.orders, adds.numbers)
-      go false true adds =
-          (adds.orders ∙ ap (λ (n : ℕ). (n + 1) % figures) h ∙ mod-add a 1,
-          adds.numbers ∙ ap (λ (n : ℕ). (n + number_of i) % figures) g ∙ mod-add b (number_of i))
+      go false true adds = (
+        adds.orders ∙ ap (λ (n : ℕ). (n + 1) % figures) h ∙ mod-add a 1,
+        adds.numbers ∙ ap (λ (n : ℕ). (n + number_of i) % figures) g ∙ mod-add b (number_of i),
+      )
       go false false adds = (adds.orders ∙ h, adds.numbers ∙ g)
 
   -- the line i before lines whose totals go on from there

@@ -1,6 +1,6 @@
 -- Worked runs with the line Z (P2), beside document 01's example: each line as it is sent, and what is printed for it. Proof: `closing-runs-hold` in
 -- proofs/ClosingRuns.antt.
-use Rattle.std.specs.Prelude.{Bool, ◌&&◌, List, [], ◌∷◌, ◌++◌, ℕ, replicate}
+use Rattle.std.specs.Prelude.{Bool, List, [], ◌∷◌, ◌++◌, ℕ, replicate}
 use Rattle.rules.specs.AnswerLines.{printed}
 use Rattle.rules.specs.Cases.{same}
 use Rattle.rules.specs.InputLines.{column_bytes}

@@ -3,10 +3,9 @@
 -- are and whatever they are answered. Proof: `totals-hold` in proofs/Totals.antt.
 use Rattle.std.specs.Prelude.{Bool, false, ◌&&◌, cond, List, [], ◌∷◌, ◌≡◌, ℕ, ◌%◌, T, eqb, length, get_or, sum}
 use Rattle.matching.specs.Lists.{any}
-use Rattle.rules.specs.AnswerLines.{Reply}
 use Rattle.rules.specs.InputLines.{letter_of, values, line_refusal}
 use Rattle.rules.specs.Letters.{Letter, letter_a, letter_z, byte_of}
-use Rattle.rules.specs.Runs.{State, Item, line, spoilt, Handled, handle_line, run, figures}
+use Rattle.rules.specs.Runs.{State, Item, line, spoilt, handle_line, run, figures}
 
 -- the line is readable, neither 1 nor 2 refuses it, and this is its letter
 abbrev pub is_read : Letter → Item → Bool
