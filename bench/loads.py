@@ -104,7 +104,8 @@ def damaged(r, count, n):
 
 
 def mixed(r, count, n):
-    """Everything, for comparing runs: small boards, all refusals, reopenings, damaged lines."""
+    """Everything, for comparing runs: small boards, all refusals, reopenings, control totals, damaged lines."""
+    given = []  # the order numbers since the last Z
     for _ in range(count):
         x = r.random()
         if x < 0.01:
@@ -113,7 +114,11 @@ def mixed(r, count, n):
             l = rising(r, n + 1, 9)
             if r.random() < 0.03:
                 r.shuffle(l)
-            yield line("A", r.randint(0, 2 * n), *l)
+            given.append(r.randint(0, 2 * n) if r.random() < 0.9 else 65535)
+            yield line("A", given[-1], *l)
+        elif x < 0.71:
+            yield line("Z", (len(given) + r.choice([0, 0, 1])) % 65536, (sum(given) + r.choice([0, 0, 1])) % 65536)
+            given = []
         elif x < 0.83:
             yield line("W", r.randint(0, 2 * n))
         elif x < 0.85:
@@ -121,7 +126,7 @@ def mixed(r, count, n):
         elif x < 0.90:
             yield b"P\n"
         elif x < 0.97:
-            yield r.choice([b"a     1\n", b"W 65536\n", b"S    01\n", b"\n", b"P     1\n", b"A     1     2     \n", b"A 99999     1\n", b"A" + b"     1" * 10 + b"\n"])
+            yield r.choice([b"Z     1\n", b"Z 65536     0\n", b"a     1\n", b"W 65536\n", b"S    01\n", b"\n", b"P     1\n", b"A     1     2     \n", b"A 99999     1\n", b"A" + b"     1" * 11 + b"\n"])
         else:
             yield bytes(b for b in r.randbytes(r.randint(0, 200)) if b != 10) + b"\n"
 

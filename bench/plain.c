@@ -15,6 +15,7 @@ static struct slot board[MOST + 1];
 static uint16_t started[MOST + 1]; /* by slot: a started order stays in its own */
 static unsigned n, held;
 static uint32_t lines, accepted, refused;
+static uint64_t orders, numbers; /* A lines since the last Z, and the sum of their order numbers */
 static unsigned char in[IN], out[OUT];
 static size_t filled;
 
@@ -264,6 +265,14 @@ static void start(unsigned number)
     answer('F', number, refusal, 0);
 }
 
+/* the control total is kept whole and cut to 65,536 when it is asked for */
+static void total(unsigned count, unsigned sum)
+{
+    int agree = count == orders % 65536 && sum == numbers % 65536;
+    answer('Z', count, agree ? 0 : 15, 0);
+    orders = numbers = 0;
+}
+
 static void print(void)
 {
     unsigned s;
@@ -336,6 +345,10 @@ static void line(const unsigned char *p, size_t len)
         if (columns)
             goto spoilt;
         break;
+    case 'Z':
+        if (columns != 2)
+            goto spoilt;
+        break;
     default:
         goto spoilt;
     }
@@ -356,6 +369,8 @@ static void line(const unsigned char *p, size_t len)
         open_board(v[0]);
         break;
     case 'A':
+        orders++;
+        numbers += v[0];
         accept(v, columns);
         break;
     case 'W':
@@ -363,6 +378,9 @@ static void line(const unsigned char *p, size_t len)
         break;
     case 'F':
         start(v[0]);
+        break;
+    case 'Z':
+        total(v[0], v[1]);
         break;
     default:
         print();
