@@ -1,7 +1,6 @@
 -- What the reader gives of a line, against the line's own call.
 use Rattle.std.proofs.Common.{◌≡◌, ℕ, ◌+◌, ◌%◌, not, ◌&&◌, eqb, List, [], ◌∷◌, Option, Some, None, Result, Ok, Err, get_or, refl, sym, ap, ◌∙◌, arith}
 use Rattle.std.proofs.lemmas.Bool.{ne_eqb}
-use Rattle.rules.specs.Bringing.{answer}
 use Rattle.rules.specs.Calls as Calls
 use Rattle.rules.specs.Calls.{Call, Answer, Check, open-board, accept, withdraw, start-order}
 use Rattle.rules.specs.Known as Rules
@@ -53,7 +52,7 @@ module _ (vs us : List ℕ) (first : get_or vs 0 0 ≡ get_or us 0 0) (second : 
 
   same-answer : (k : Rules.Known) (q : Option Call) (s : State) → answer_known k q vs s ≡ answer_known k q us s
   same-answer k (Some q) s = refl
-  same-answer k None s = (λ i. answer (Calls.first (tests (first i) (second i) s.tally)) 0 s.board s.work)
+  same-answer k None s = (λ i. record { refusal = Calls.first (tests (first i) (second i) s.tally); count = 0; board = s.board; work = s.work })
     where
       tests : ℕ → ℕ → Counts → List Check
       tests m n t = (15, not (eqb m t.orders && eqb n t.numbers)) ∷ []

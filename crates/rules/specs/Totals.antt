@@ -12,7 +12,7 @@ abbrev pub is_read : Letter → Item → Bool
 is_read x (line l) = eqb (line_refusal l) 0 && eqb (byte_of (letter_of l)) (byte_of x)
 is_read x spoilt = false
 
--- "since the last readable Z or the start": the lines after it
+-- "since the last readable Z or the start": as long as there is a Z among the lines, the first of them does not count
 abbrev pub since_z : List Item → List Item
 since_z [] = []
 since_z (i ∷ is) = cond (any (is_read letter_z) (i ∷ is)) (since_z is) (i ∷ is)
