@@ -85,9 +85,8 @@ fn asked_line(
 {
     let answer = answer_to(line, board, work, tally, known);
     let number = shown_number(line, answer, board);
-    let reply = replied(line.kind.letter(), number, answer, tally);
     note_line(line, tally);
-    reply
+    replied(line.kind.letter(), number, answer, tally)
 }
 
 // A line, without its line feed, by what is known. The tally is brought up to date.

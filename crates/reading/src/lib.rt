@@ -18,10 +18,10 @@ const MOST_COLUMNS: usize = 10;
 pub enum Kind {
     Open,
     Accept,
+    Total,
     Withdraw,
     Start,
     Print,
-    Total,
 }
 
 impl Kind {
