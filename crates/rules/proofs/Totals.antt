@@ -30,18 +30,20 @@ record Adds (t t' : Counts) (z a : Bool) (number : ℕ) : Type 0 where
   orders : t'.orders ≡ cond z 0 (cond a ((t.orders + 1) % figures) t.orders)
   numbers : t'.numbers ≡ cond z 0 (cond a ((t.numbers + number) % figures) t.numbers)
 
-counts-keep : (b : Bool) (t : Counts) → ((counted b t).orders ≡ t.orders) × ((counted b t).numbers ≡ t.numbers)
-counts-keep true t = (refl, refl)
-counts-keep false t = (refl, refl)
+counted-keeps : (b : Bool) (t : Counts) (number : ℕ) → Adds t (counted b t) false false number
+counted-keeps true t number = record { orders = refl; numbers = refl }
+counted-keeps false t number = record { orders = refl; numbers = refl }
 
 read-adds : (x : Letter) (vs : List ℕ) (b : Bool) (t : Counts) → Adds t (noted x vs (counted b t)) (is_letter x letter_z) (is_letter x letter_a) (get_or vs 0 0)
-read-adds letter_s vs b t = record { orders = (counts-keep b t).0; numbers = (counts-keep b t).1 }
-read-adds letter_a vs b t = record { orders = ap (λ (n : ℕ). (n + 1) % figures) (counts-keep b t).0; numbers = ap (λ (n : ℕ). (n + get_or vs 0 0) % figures) (counts-keep b t).1 }
-read-adds letter_w vs b t = record { orders = (counts-keep b t).0; numbers = (counts-keep b t).1 }
-read-adds letter_f vs b t = record { orders = (counts-keep b t).0; numbers = (counts-keep b t).1 }
-read-adds letter_p vs b t = record { orders = (counts-keep b t).0; numbers = (counts-keep b t).1 }
+read-adds letter_s vs b t = counted-keeps b t (get_or vs 0 0)
+read-adds letter_a vs b t =
+    let k = counted-keeps b t (get_or vs 0 0) in
+    record { orders = ap (λ (n : ℕ). (n + 1) % figures) k.orders; numbers = ap (λ (n : ℕ). (n + get_or vs 0 0) % figures) k.numbers }
+read-adds letter_w vs b t = counted-keeps b t (get_or vs 0 0)
+read-adds letter_f vs b t = counted-keeps b t (get_or vs 0 0)
+read-adds letter_p vs b t = counted-keeps b t (get_or vs 0 0)
 read-adds letter_z vs b t = record { orders = refl; numbers = refl }
-read-adds letter_x vs b t = record { orders = (counts-keep b t).0; numbers = (counts-keep b t).1 }
+read-adds letter_x vs b t = counted-keeps b t (get_or vs 0 0)
 
 adds : (s : State) (i : Item) → Adds s.tally (handle s i).state.tally (is_read letter_z i) (is_read letter_a i) (number_of i)
 unfolding handle_line
