@@ -1,14 +1,15 @@
 /* The same job in plain C, unverified: no check of the board, a table from number to slot, buffered input and output.
-   With -DSCAN it has no table and looks through the slots for a number, as the proved program does. */
+   The table has one slot for a number: where orders of several customers have it, all but the one placed last are looked for slot by slot.
+   With -DSCAN it has no table and looks through the slots for each order, as the proved program does. */
 #include <stdint.h>
 #include <stdio.h>
 #include <string.h>
 #include <unistd.h>
 
-enum { MOST = 1024, IN = 1 << 16, OUT = 1 << 16, LINE = 61 };
+enum { MOST = 1024, IN = 1 << 16, OUT = 1 << 16, LINE = 67, CODES = 999 };
 
 struct slot {
-    uint16_t number, label, count, row[8];
+    uint16_t code, number, label, count, row[8];
 };
 
 static struct slot board[MOST + 1];
@@ -19,15 +20,20 @@ static uint64_t orders, numbers; /* A lines since the last Z, and the sum of the
 static unsigned char in[IN], out[OUT];
 static size_t filled;
 
-#ifdef SCAN
-static unsigned where(unsigned number)
+static unsigned scan(unsigned code, unsigned number)
 {
     unsigned s;
     for (s = 1; s <= n; s++) {
-        if (board[s].number == number)
+        if (board[s].number == number && board[s].code == code)
             return s;
     }
     return 0;
+}
+
+#ifdef SCAN
+static unsigned where(unsigned code, unsigned number)
+{
+    return scan(code, number);
 }
 
 static void set_where(unsigned number, unsigned s)
@@ -35,17 +41,32 @@ static void set_where(unsigned number, unsigned s)
     (void)number;
     (void)s;
 }
-#else
-static uint16_t slot_of[65536];
 
-static unsigned where(unsigned number)
+static void count_number(unsigned number, int more)
 {
-    return slot_of[number];
+    (void)number;
+    (void)more;
+}
+#else
+/* of each number: where the order that was placed last with it went, and how many held orders have it */
+static uint16_t slot_of[65536], times[65536];
+
+static unsigned where(unsigned code, unsigned number)
+{
+    unsigned s = slot_of[number];
+    if (times[number] == 0)
+        return 0;
+    return board[s].number == number && board[s].code == code ? s : scan(code, number);
 }
 
 static void set_where(unsigned number, unsigned s)
 {
     slot_of[number] = (uint16_t)s;
+}
+
+static void count_number(unsigned number, int more)
+{
+    times[number] = (uint16_t)(times[number] + more);
 }
 #endif
 
@@ -93,21 +114,22 @@ static void count_line(int ok)
         refused++;
 }
 
-static void answer(char letter, unsigned number, unsigned refusal, uint64_t count)
+static void answer(char letter, unsigned code, unsigned number, unsigned refusal, uint64_t count)
 {
-    uint64_t v[3];
-    v[0] = number;
-    v[1] = refusal;
-    v[2] = count;
-    row(letter, v, 3);
+    uint64_t v[4];
+    v[0] = code;
+    v[1] = number;
+    v[2] = refusal;
+    v[3] = count;
+    row(letter, v, 4);
     count_line(refusal == 0);
 }
 
-static void shut(const uint16_t *marked, unsigned number, unsigned size)
+static void shut(const uint16_t *marked, unsigned code, unsigned number, unsigned size)
 {
     uint64_t v[8];
     unsigned s, k = 0;
-    answer('A', number, 12, size);
+    answer('A', code, number, 12, size);
     for (s = 1; s <= n; s++) {
         if (!marked[s])
             continue;
@@ -180,96 +202,104 @@ static uint64_t place(struct slot x)
 static void accept(const unsigned *v, unsigned columns)
 {
     static uint16_t marked[MOST + 1];
-    unsigned number = v[0], count = columns - 1, i, size = 0;
+    unsigned code = v[0], number = v[1], count = columns - 2, i, size = 0;
     struct slot x;
     if (n == 0) {
-        answer('A', number, 5, 0);
+        answer('A', code, number, 5, 0);
+        return;
+    }
+    if (code < 1 || code > CODES) {
+        answer('A', code, number, 16, 0);
         return;
     }
     if (number == 0) {
-        answer('A', number, 7, 0);
+        answer('A', code, number, 7, 0);
         return;
     }
     if (count < 1 || count > 8) {
-        answer('A', number, 8, 0);
+        answer('A', code, number, 8, 0);
         return;
     }
-    for (i = 1; i <= count; i++) {
-        if (v[i] < 1 || v[i] > n) {
-            answer('A', number, 9, 0);
+    for (i = 0; i < count; i++) {
+        if (v[i + 2] < 1 || v[i + 2] > n) {
+            answer('A', code, number, 9, 0);
             return;
         }
     }
-    for (i = 2; i <= count; i++) {
-        if (v[i] <= v[i - 1]) {
-            answer('A', number, 10, 0);
+    for (i = 1; i < count; i++) {
+        if (v[i + 2] <= v[i + 1]) {
+            answer('A', code, number, 10, 0);
             return;
         }
     }
-    if (where(number)) {
-        answer('A', number, 11, 0);
+    if (where(code, number)) {
+        answer('A', code, number, 11, 0);
         return;
     }
     memset(&x, 0, sizeof x);
+    x.code = (uint16_t)code;
     x.number = (uint16_t)number;
     x.count = (uint16_t)count;
     for (i = 0; i < count; i++)
-        x.row[i] = (uint16_t)v[i + 1];
+        x.row[i] = (uint16_t)v[i + 2];
     if (!reach(x.row, count, marked, &size)) {
-        shut(marked, number, size);
+        shut(marked, code, number, size);
         return;
     }
     held++;
-    answer('A', number, 0, place(x));
+    count_number(number, 1);
+    answer('A', code, number, 0, place(x));
 }
 
 /* the refusal of a W or F, or 0; the order's slot is *s then */
-static unsigned named(unsigned number, unsigned *s)
+static unsigned named(unsigned code, unsigned number, unsigned *s)
 {
     if (n == 0)
         return 5;
+    if (code < 1 || code > CODES)
+        return 16;
     if (number == 0)
         return 7;
-    *s = where(number);
+    *s = where(code, number);
     if (*s == 0)
         return 13;
     return started[*s] ? 14 : 0;
 }
 
-static void withdraw(unsigned number)
+static void withdraw(unsigned code, unsigned number)
 {
-    unsigned s, refusal = named(number, &s);
+    unsigned s, refusal = named(code, number, &s);
     if (refusal) {
-        answer('W', number, refusal, 0);
+        answer('W', code, number, refusal, 0);
         return;
     }
     memset(&board[s], 0, sizeof board[0]);
-    set_where(number, 0);
+    count_number(number, -1);
     held--;
     for (s = 1; s <= n; s++) {
         if (board[s].number)
             board[s].label = 1;
     }
-    answer('W', number, 0, 0);
+    answer('W', code, number, 0, 0);
 }
 
 /* no line shows a list, so that the order's own slot is all that is left of it */
-static void start(unsigned number)
+static void start(unsigned code, unsigned number)
 {
-    unsigned s, refusal = named(number, &s);
+    unsigned s, refusal = named(code, number, &s);
     if (!refusal) {
         started[s] = 1;
         board[s].count = 1;
         board[s].row[0] = (uint16_t)s;
     }
-    answer('F', number, refusal, 0);
+    answer('F', code, number, refusal, 0);
 }
 
 /* the control total is kept whole and cut to 65,536 when it is asked for */
 static void total(unsigned count, unsigned sum)
 {
     int agree = count == orders % 65536 && sum == numbers % 65536;
-    answer('Z', count, agree ? 0 : 15, 0);
+    answer('Z', 0, count, agree ? 0 : 15, 0);
     orders = numbers = 0;
 }
 
@@ -277,16 +307,17 @@ static void print(void)
 {
     unsigned s;
     if (n == 0) {
-        answer('P', 0, 5, 0);
+        answer('P', 0, 0, 5, 0);
         return;
     }
-    answer('P', held, 0, n);
+    answer('P', 0, held, 0, n);
     for (s = 1; s <= n; s++) {
-        uint64_t v[3];
+        uint64_t v[4];
         v[0] = s;
-        v[1] = board[s].number;
-        v[2] = board[s].label;
-        row('L', v, 3);
+        v[1] = board[s].code;
+        v[2] = board[s].number;
+        v[3] = board[s].label;
+        row('L', v, 4);
     }
 }
 
@@ -294,16 +325,18 @@ static void open_board(unsigned m)
 {
     unsigned s;
     if (m < 1 || m > MOST) {
-        answer('S', m, 3, 0);
+        answer('S', 0, m, 3, 0);
         return;
     }
-    for (s = 1; s <= n; s++)
-        set_where(board[s].number, 0);
+    for (s = 1; s <= n; s++) {
+        if (board[s].number)
+            count_number(board[s].number, -1);
+    }
     n = m;
     held = 0;
     memset(board, 0, sizeof board);
     memset(started, 0, sizeof started);
-    answer('S', m, 0, 0);
+    answer('S', 0, m, 0, 0);
 }
 
 /* six bytes: spaces, then a number without leading zeros; -1 if they are not */
@@ -325,28 +358,28 @@ static long column(const unsigned char *p)
 
 static void line(const unsigned char *p, size_t len)
 {
-    unsigned v[10], columns, i;
+    unsigned v[11], columns, i;
     int large = 0;
     if (len < 1 || len > LINE || (len - 1) % 6)
         goto spoilt;
     columns = (unsigned)((len - 1) / 6);
     switch (p[0]) {
     case 'S':
-    case 'W':
-    case 'F':
         if (columns != 1)
             goto spoilt;
         break;
     case 'A':
-        if (columns < 1)
+        if (columns < 2)
+            goto spoilt;
+        break;
+    case 'W':
+    case 'F':
+    case 'Z':
+        if (columns != 2)
             goto spoilt;
         break;
     case 'P':
         if (columns)
-            goto spoilt;
-        break;
-    case 'Z':
-        if (columns != 2)
             goto spoilt;
         break;
     default:
@@ -361,7 +394,7 @@ static void line(const unsigned char *p, size_t len)
         v[i] = (unsigned)x;
     }
     if (large) {
-        answer('X', 0, 2, 0);
+        answer('X', 0, 0, 2, 0);
         return;
     }
     switch (p[0]) {
@@ -370,14 +403,14 @@ static void line(const unsigned char *p, size_t len)
         break;
     case 'A':
         orders++;
-        numbers += v[0];
+        numbers += v[1];
         accept(v, columns);
         break;
     case 'W':
-        withdraw(v[0]);
+        withdraw(v[0], v[1]);
         break;
     case 'F':
-        start(v[0]);
+        start(v[0], v[1]);
         break;
     case 'Z':
         total(v[0], v[1]);
@@ -387,7 +420,7 @@ static void line(const unsigned char *p, size_t len)
     }
     return;
 spoilt:
-    answer('X', 0, 1, 0);
+    answer('X', 0, 0, 1, 0);
 }
 
 int main(void)
@@ -418,7 +451,7 @@ int main(void)
         }
     }
     if (waiting)
-        answer('X', 0, 1, 0);
+        answer('X', 0, 0, 1, 0);
     v[0] = lines;
     v[1] = accepted;
     v[2] = refused;

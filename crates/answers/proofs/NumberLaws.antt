@@ -5,7 +5,7 @@ use Rattle.answers.specs.Numbers.{code, shown_of, said}
 use Rattle.answers.specs.declared.Rejection.{Rejection}
 use Rattle.answers.specs.declared.Rejection.TheVariants.{Refused, Blocked, Undecided}
 use Rattle.answers.specs.declared.Refusal.{Refusal}
-use Rattle.answers.specs.declared.Refusal.TheVariants.{Malformed, TooLarge, BadSize, Short, Unsound, LittleWork, NumberZero, BadCount, OffBoard, NotRising, HeldAlready, NotHeld, Started, TotalDiffers}
+use Rattle.answers.specs.declared.Refusal.TheVariants.{Malformed, TooLarge, BadSize, Short, Unsound, LittleWork, NumberZero, BadCount, OffBoard, NotRising, HeldAlready, NotHeld, Started, TotalDiffers, BadCode}
 
 -- a refusal's number is never 0
 pub code-some : (r : Refusal) → 1 ≤ code r
@@ -23,6 +23,7 @@ code-some HeldAlready = omega arith
 code-some NotHeld = omega arith
 code-some Started = omega arith
 code-some TotalDiffers = omega arith
+code-some BadCode = omega arith
 
 -- a refusal shows nothing, whichever it is
 shows-none : (b : Bool) → ◌≡◌ {A = ℕ} 0 (cond b 0 0)

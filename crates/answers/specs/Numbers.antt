@@ -4,7 +4,7 @@ use Rattle.rules.specs.Calls as Calls
 use Rattle.answers.specs.declared.Rejection.{Rejection}
 use Rattle.answers.specs.declared.Rejection.TheVariants.{Refused, Blocked, Undecided}
 use Rattle.answers.specs.declared.Refusal.{Refusal}
-use Rattle.answers.specs.declared.Refusal.TheVariants.{Malformed, TooLarge, BadSize, Short, Unsound, LittleWork, NumberZero, BadCount, OffBoard, NotRising, HeldAlready, NotHeld, Started, TotalDiffers}
+use Rattle.answers.specs.declared.Refusal.TheVariants.{Malformed, TooLarge, BadSize, Short, Unsound, LittleWork, NumberZero, BadCount, OffBoard, NotRising, HeldAlready, NotHeld, Started, TotalDiffers, BadCode}
 
 -- the table "Turned-down lines"; 12 is `Blocked`
 abbrev pub code : Refusal → ℕ
@@ -22,6 +22,7 @@ code HeldAlready = 11
 code NotHeld = 13
 code Started = 14
 code TotalDiffers = 15
+code BadCode = 16
 
 -- what a list of checks says: the number of the one that turns a call down, or 0
 abbrev pub gate_number : Result Unit Refusal → ℕ

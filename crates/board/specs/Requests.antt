@@ -6,14 +6,15 @@ use Rattle.answers.specs.Numbers.{said}
 use Rattle.answers.specs.declared.Rejection.{Rejection}
 use Rattle.checking.specs.declared.Known.{Known}
 use Rattle.checking.specs.Known.{known_of}
+use Rattle.words.specs.Carried.{key_of}
 use Rattle.board.specs.declared.Request.{Request}
 use Rattle.board.specs.declared.Request.TheVariants.{Open, Accept, Withdraw, Start, Print}
 
 abbrev pub call_for : Request → Call
 call_for (Open n) = open-board n
-call_for (Accept o) = accept o.number o.count o.row
-call_for (Withdraw k) = withdraw k
-call_for (Start k) = start-order k
+call_for (Accept o) = accept (key_of o.key) o.count o.row
+call_for (Withdraw k) = withdraw (key_of k)
+call_for (Start k) = start-order (key_of k)
 call_for Print = print
 
 -- The call q, of whatever words, by what is known; and what is known after it.

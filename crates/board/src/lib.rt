@@ -18,6 +18,7 @@ ghost use Rattle.rules.specs.Calls.{
 ghost use Rattle.rules.specs.Known.{gate_of, few_of, past_gate, perform_known, known_opened};
 ghost use Rattle.answers.specs.Numbers.{gate_number, said, Opens};
 ghost use Rattle.checking.specs.Known.{known_of};
+ghost use Rattle.words.specs.Carried.{key_of};
 ghost use Rattle.board.specs.Requests.{call_for, Counts, LearnsPast, Performs};
 
 use accepting::take_order;
@@ -28,7 +29,7 @@ use checking::{Known, assess, short_for, work_gate};
 use starting::mark_started;
 use storing::{put_size, zero_front};
 use withdrawing::take_out;
-pub use words::Order;
+pub use words::{Key, Order};
 use words::{MOST_SLOTS, board_words, size_of, work_words};
 
 // "open a board, accept an order, withdraw one, print"; P1: start one
@@ -36,8 +37,8 @@ use words::{MOST_SLOTS, board_words, size_of, work_words};
 pub enum Request {
     Open(u16),
     Accept(Order),
-    Withdraw(u16),
-    Start(u16),
+    Withdraw(Key),
+    Start(Key),
     Print,
 }
 
@@ -103,8 +104,8 @@ fn past_gate(request: &Request, board: &mut [u16], work: &mut [u16]) -> Answer
             Ok(0)
         }
         Request::Accept(order) => take_order(board, work, order),
-        Request::Withdraw(number) => take_out(board, *number),
-        Request::Start(number) => mark_started(board, *number),
+        Request::Withdraw(key) => take_out(board, *key),
+        Request::Start(key) => mark_started(board, *key),
         Request::Print => slots_counted(board),
     }
 }
@@ -167,21 +168,21 @@ pub fn open_board(board: &mut [u16], n: u16) -> Answer
 }
 
 pub fn accept(board: &mut [u16], work: &mut [u16], order: Order) -> Answer
-    ensures { said result board.new work.new ≡ step (accept_call order.number order.count order.row) board.old work.old }
+    ensures { said result board.new work.new ≡ step (accept_call (key_of order.key) order.count order.row) board.old work.old }
 {
     call(&Request::Accept(order), board, work)
 }
 
-pub fn withdraw(board: &mut [u16], work: &mut [u16], number: u16) -> Answer
-    ensures { said result board.new work.new ≡ step (withdraw_call number) board.old work.old }
+pub fn withdraw(board: &mut [u16], work: &mut [u16], key: Key) -> Answer
+    ensures { said result board.new work.new ≡ step (withdraw_call (key_of key)) board.old work.old }
 {
-    call(&Request::Withdraw(number), board, work)
+    call(&Request::Withdraw(key), board, work)
 }
 
-pub fn start(board: &mut [u16], work: &mut [u16], number: u16) -> Answer
-    ensures { said result board.new work.new ≡ step (start_call number) board.old work.old }
+pub fn start(board: &mut [u16], work: &mut [u16], key: Key) -> Answer
+    ensures { said result board.new work.new ≡ step (start_call (key_of key)) board.old work.old }
 {
-    call(&Request::Start(number), board, work)
+    call(&Request::Start(key), board, work)
 }
 
 // The board is lent for reading only, so that `perform`, which may write it, cannot be asked: its own parts for a print.

@@ -6,7 +6,7 @@ ghost use Rattle.matching.specs.Lists.{indicator};
 ghost use Rattle.rules.specs.Check.{passes};
 ghost use Rattle.board_c.specs.Exported.{Accepts};
 
-use board::{Order, Rejection};
+use board::{Key, Order, Rejection};
 
 // 1 if the board passes the check, else 0.
 #[unsafe(no_mangle)]
@@ -21,13 +21,14 @@ pub extern "C" fn slotboard_check(board: &[u16]) -> u8
 pub extern "C" fn slotboard_accept_two(
     board: &mut [u16],
     work: &mut [u16],
+    code: u16,
     number: u16,
     first: u16,
     second: u16,
 ) -> u16
-    ensures { Accepts number first second board.old work.old result board.new work.new }
+    ensures { Accepts (record { code = code; number = number }) first second board.old work.old result board.new work.new }
 {
-    let order = Order::new(number, 2, [first, second, 0, 0, 0, 0, 0, 0]);
+    let order = Order::new(Key { code, number }, 2, [first, second, 0, 0, 0, 0, 0, 0]);
     match board::accept(board, work, order) {
         Err(Rejection::Blocked(slots)) => slots,
         Ok(_) | Err(Rejection::Refused(_)) | Err(Rejection::Undecided) => 0,

@@ -8,8 +8,9 @@ use Rattle.std.proofs.lemmas.List.{take_min, drop_all, length-drop, drop-drop}
 use Rattle.std.proofs.Math.Seq.{drop-cons}
 use Rattle.std.proofs.Math.Nat.{min_comm}
 use Rattle.std.proofs.Math.ListN.{get_or-eq_default}
+use Rattle.matching.specs.Orders.{Key}
 use Rattle.rules.specs.Check.{zeros}
-use Rattle.rules.specs.Layout.{word, reads, base, number_at, slot_words, board_words}
+use Rattle.rules.specs.Layout.{word, reads, head_words, slot_words, base, number_at, key_at, board_words}
 use Rattle.checking.specs.Slots.{whole, whole_slots}
 
 reads-slice : (w : List ℕ) (i k : ℕ) → i + k ≤ length w → take k (drop i w) ≡ reads w i k
@@ -18,12 +19,14 @@ reads-slice w i (suc k) h = ap (take (suc k)) (drop-cons w i 0 (omega arith)) �
 
 -- ---- slot after slot
 
-chunks : (w : List ℕ) (i k : ℕ) → 11 * (i + k) ≤ length w - 2 → first_chunks 11 k (drop (2 + 11 * i) w) ≡ map (λ s. reads w (base s) slot_words) (range_with_len (i + 1) k)
+chunks : (w : List ℕ) (i k : ℕ) → slot_words * (i + k) ≤ length w - head_words
+    → first_chunks slot_words k (drop (head_words + slot_words * i) w) ≡ map (λ s. reads w (base s) slot_words) (range_with_len (i + 1) k)
 chunks w i zero h = refl
 chunks w i (suc k) h =
-    let here : take 11 (drop (2 + 11 * i) w) ≡ reads w (base (i + 1)) slot_words = reads-slice w (2 + 11 * i) 11 (omega arith) ∙ ap (λ (j : ℕ). reads w j 11) (omega arith) in
-    let next : drop 11 (drop (2 + 11 * i) w) ≡ drop (2 + 11 * (i + 1)) w = drop-drop 11 (2 + 11 * i) w ∙ ap (λ (j : ℕ). drop j w) (omega arith) in
-    let rest = ap (first_chunks 11 k) next ∙ chunks w (i + 1) k (omega arith) in
+    let at = head_words + slot_words * i in
+    let here : take slot_words (drop at w) ≡ reads w (base (i + 1)) slot_words = reads-slice w at slot_words (omega arith) ∙ ap (λ (j : ℕ). reads w j slot_words) (omega arith) in
+    let next : drop slot_words (drop at w) ≡ drop (head_words + slot_words * (i + 1)) w = drop-drop slot_words at w ∙ ap (λ (j : ℕ). drop j w) (omega arith) in
+    let rest = ap (first_chunks slot_words k) next ∙ chunks w (i + 1) k (omega arith) in
     λ e. here e ∷ rest e
 
 fewer : (c m k : ℕ) (xs : List ℕ) → m ≤ k → take m (first_chunks c k xs) ≡ first_chunks c m xs
@@ -31,19 +34,33 @@ fewer c zero k xs h = refl
 fewer c (suc m) zero xs h = absurd (omega arith)
 fewer c (suc m) (suc k) xs h = ap (λ (l : List (List ℕ)). take c xs ∷ l) (fewer c m k (drop c xs) (omega arith))
 
-pub whole_are : (w from : List ℕ) (n m : ℕ) → from ≡ drop 2 w → m ≡ min (length from / 11) n → take m (first_chunks 11 (length from / 11) from) ≡ whole_slots n w
+pub whole_are : (w from : List ℕ) (n m : ℕ) → from ≡ drop head_words w → m ≡ min (length from / slot_words) n
+    → take m (first_chunks slot_words (length from / slot_words) from) ≡ whole_slots n w
 whole_are w from n m ef em =
-    fewer 11 m (length from / 11) from (omega (arith, em)) ∙ ap (first_chunks 11 m) ef ∙ chunks w 0 m (omega (arith, many)) ∙ ap (λ (k : ℕ). map (λ s. reads w (base s) slot_words) (range_with_len 1 k)) many
+    fewer slot_words m (length from / slot_words) from (omega (arith, em)) ∙ ap (first_chunks slot_words m) ef ∙ chunks w 0 m (omega (arith, many))
+    ∙ ap (λ (k : ℕ). map (λ s. reads w (base s) slot_words) (range_with_len 1 k)) many
   where
     many : m ≡ whole n w
-    many = omega (arith, em, ap length ef, length-drop 2 w)
+    many = omega (arith, em, ap length ef, length-drop head_words w)
 
--- the number of the slot in a place
-pub number-in : (w : List ℕ) (n i : ℕ) (slots : List (List ℕ)) → slots ≡ whole_slots n w → i < length slots → get_or (get_or slots i []) 0 0 ≡ number_at w (suc i)
-number-in w n i slots e h =
+-- the words of the slot in a place
+words-in : (w : List ℕ) (n i : ℕ) (slots : List (List ℕ)) → slots ≡ whole_slots n w → i < length slots → get_or slots i [] ≡ reads w (base (suc i)) slot_words
+words-in w n i slots e h =
     let words = λ (s : ℕ). reads w (base s) slot_words in
     let lt : i < whole n w = omega (arith, ap length e, length-map-range_with_len words 1 (whole n w)) in
-    ap (λ (l : List (List ℕ)). get_or (get_or l i []) 0 0) e ∙ ap (λ (l : List ℕ). get_or l 0 0) (get_or-map-range_with_len words 1 (whole n w) i (suc i) [] lt (omega arith))
+    ap (λ (l : List (List ℕ)). get_or l i []) e ∙ get_or-map-range_with_len words 1 (whole n w) i (suc i) [] lt (omega arith)
+
+-- its number, and its key
+pub number-in : (w : List ℕ) (n i : ℕ) (slots : List (List ℕ)) → slots ≡ whole_slots n w → i < length slots → get_or (get_or slots i []) 1 0 ≡ number_at w (suc i)
+number-in w n i slots e h = ap (λ (l : List ℕ). get_or l 1 0) (words-in w n i slots e h) ∙ ap (word w) (omega arith)
+
+abbrev pub key_in : List (List ℕ) → ℕ → Key
+key_in slots i = record { code = get_or (get_or slots i []) 0 0; number = get_or (get_or slots i []) 1 0 }
+
+pub key-in : (w : List ℕ) (n i : ℕ) (slots : List (List ℕ)) → slots ≡ whole_slots n w → i < length slots → key_in slots i ≡ key_at w (suc i)
+key-in w n i slots e h =
+    let number = number-in w n i slots e h in
+    λ j. record { code = get_or (words-in w n i slots e h j) 0 0; number = number j }
 
 -- ---- the words of one slot
 

@@ -10,7 +10,7 @@ use words::{
     words_from,
 };
 
-// Those of the slots 1 .. n that have all their words, the first of which is the number: a walk over them need not look for the board's end at each.
+// Those of the slots 1 .. n that have all their words: a walk over them need not look for the board's end at each.
 pub(crate) fn slots_of(board: &[u16], n: u16) -> &[[u16; SLOT_WORDS]]
     ensures words { result.now ≡ whole_slots n board.now }
     ensures many { length result.now ≡ whole n board.now }
@@ -60,7 +60,10 @@ fn held_fine(board: &[u16], n: u16, s: u16) -> bool
 {
     let order = order_at(board, s);
     let label = label_at(board, s);
-    list_fine(n, s, &order) && (1..=n).contains(&label) && labels_low(board, s, order.open_slots())
+    order.key.has_good_code()
+        && list_fine(n, s, &order)
+        && (1..=n).contains(&label)
+        && labels_low(board, s, order.open_slots())
 }
 
 #[tactic(auto, unfolding(rules::specs::Check::slot_fine))]

@@ -9,8 +9,9 @@ use Rattle.rules.specs.KnownLines.{asked, handle_known, known_by, known_line}
 use Rattle.rules.specs.InputLines.{values, call_of}
 use Rattle.rules.specs.Letters.{Letter, letter_s, letter_a, letter_w, letter_f, letter_p, letter_z, letter_x, byte_of}
 use Rattle.rules.specs.Ledger.{ok}
-use Rattle.rules.specs.Runs.{Counts, counted, noted, figures, State, first_number, answered, handle_line}
+use Rattle.rules.specs.Runs.{Counts, counted, noted, figures, State, shown_code, shown_number, answered, handle_line}
 use Rattle.rules.proofs.Knowing.{lines}
+use Rattle.words.specs.Carried.{key_of}
 use Rattle.words.specs.declared.Order.{Order}
 use Rattle.answers.specs.Numbers.{code}
 use Rattle.answers.specs.declared.Refusal.{Refusal}
@@ -32,18 +33,27 @@ use Rattle.handling.specs.Turns.{Turns, Asks, AnswersTo, call_by, line_call, ans
 -- ---- of a line's numbers its answer looks at the first two
 
 module _ (vs us : List ℕ) (first : get_or vs 0 0 ≡ get_or us 0 0) (second : get_or vs 1 0 ≡ get_or us 1 0) where
-  first-shown : (x : Letter) (r : Answer) → first_number x vs r ≡ first_number x us r
-  first-shown letter_s r = first
-  first-shown letter_a r = first
-  first-shown letter_w r = first
-  first-shown letter_f r = first
-  first-shown letter_p r = refl
-  first-shown letter_z r = first
-  first-shown letter_x r = refl
+  code-shown : (x : Letter) → shown_code x vs ≡ shown_code x us
+  code-shown letter_s = refl
+  code-shown letter_a = first
+  code-shown letter_w = first
+  code-shown letter_f = first
+  code-shown letter_p = refl
+  code-shown letter_z = refl
+  code-shown letter_x = refl
+
+  number-shown : (x : Letter) (r : Answer) → shown_number x vs r ≡ shown_number x us r
+  number-shown letter_s r = first
+  number-shown letter_a r = second
+  number-shown letter_w r = second
+  number-shown letter_f r = second
+  number-shown letter_p r = refl
+  number-shown letter_z r = first
+  number-shown letter_x r = refl
 
   same-noted : (x : Letter) (t : Counts) → noted x vs t ≡ noted x us t
   same-noted letter_s t = refl
-  same-noted letter_a t = ap (λ (m : ℕ). record t { orders = (t.orders + 1) % figures; numbers = (t.numbers + m) % figures }) first
+  same-noted letter_a t = ap (λ (m : ℕ). record t { orders = (t.orders + 1) % figures; numbers = (t.numbers + m) % figures }) second
   same-noted letter_w t = refl
   same-noted letter_f t = refl
   same-noted letter_p t = refl
@@ -59,7 +69,7 @@ module _ (vs us : List ℕ) (first : get_or vs 0 0 ≡ get_or us 0 0) (second : 
 
   answered-same : (x : Letter) (s : State) (r : Answer) → answered x vs s r ≡ answered x us s r
   answered-same x s r = (λ i. record {
-    reply = record { letter = byte_of x; number = first-shown x r i; refusal = r.refusal; count = r.count };
+    reply = record { letter = byte_of x; code = code-shown x i; number = number-shown x r i; refusal = r.refusal; count = r.count };
     state = record { board = r.board; work = r.work; tally = same-noted x (counted (ok r) s.tally) i };
   })
 
@@ -88,9 +98,9 @@ module _ (l : List ℕ) (r : Result Line Refusal) (given : r ≡ line_of l) wher
     by_kind : (k : Kind) → call_by k read ≡ call_of (kind_letter k) (values l)
     unfolding call_of
     by_kind Open = ap (λ (n : ℕ). Some (open-board n)) first_is
-    by_kind Accept = ap (λ (o : Order). Some (accept o.number o.count o.row)) gives.order
-    by_kind Withdraw = ap (λ (n : ℕ). Some (withdraw n)) first_is
-    by_kind Start = ap (λ (n : ℕ). Some (start-order n)) first_is
+    by_kind Accept = ap (λ (o : Order). Some (accept (key_of o.key) o.count o.row)) gives.order
+    by_kind Withdraw = ap (λ (o : Order). Some (withdraw (key_of o.key))) gives.order
+    by_kind Start = ap (λ (o : Order). Some (start-order (key_of o.key))) gives.order
     by_kind Print = refl
     by_kind Total = refl
 

@@ -16,6 +16,7 @@ use Rattle.reading.specs.Reading.{kind_letter, line_order}
 use Rattle.reading.specs.declared.Kind.{Kind}
 use Rattle.reading.specs.declared.Kind.TheVariants.{Open, Accept, Withdraw, Start, Print, Total}
 use Rattle.reading.specs.declared.Line.{Line}
+use Rattle.words.specs.Carried.{key_of}
 
 pub record Turns (l : List ℕ) (k : Known) (s : R.State) (r : Reply) (k' : Known) (t : Tally) (w' work' : List ℕ) : Type 0 where
   pub handled : handled_of r t w' work' ≡ handle_known (known_of k) l s
@@ -24,9 +25,9 @@ pub record Turns (l : List ℕ) (k : Known) (s : R.State) (r : Reply) (k' : Know
 -- Internal: the call that a line of this kind asks for
 abbrev pub call_by : Kind → Line → Option Call
 call_by Open l = Some (open-board (get_or l.columns 0 0))
-call_by Accept l = Some (accept (line_order l).number (line_order l).count (line_order l).row)
-call_by Withdraw l = Some (withdraw (get_or l.columns 0 0))
-call_by Start l = Some (start-order (get_or l.columns 0 0))
+call_by Accept l = Some (accept (key_of (line_order l).key) (line_order l).count (line_order l).row)
+call_by Withdraw l = Some (withdraw (key_of (line_order l).key))
+call_by Start l = Some (start-order (key_of (line_order l).key))
 call_by Print l = Some print
 call_by Total l = None
 
@@ -35,7 +36,7 @@ line_call l = call_by l.kind l
 
 -- Internal: the number that the answer line shows, whatever the work words
 abbrev pub Shows : Line → Result ℕ Rejection → List ℕ → ℕ → Type 0
-Shows l a b n = (w : List ℕ) → n ≡ R.first_number (kind_letter l.kind) l.columns (said a b w)
+Shows l a b n = (w : List ℕ) → n ≡ R.shown_number (kind_letter l.kind) l.columns (said a b w)
 
 -- Internal: the answer to a line of these numbers that asks for the call q, or for none
 abbrev pub answer_known : Rules.Known → Option Call → List ℕ → R.State → Answer

@@ -5,7 +5,7 @@
 
 ghost use Rattle.std.specs.Prelude.{◌≡◌, List, ℕ};
 ghost use Rattle.std.specs.Option.{option_map};
-ghost use Rattle.rules.specs.Runs.{first_number, handle_line, noted};
+ghost use Rattle.rules.specs.Runs.{handle_line, noted, shown_code};
 ghost use Rattle.answers.specs.Numbers.{said};
 ghost use Rattle.answers.specs.Values.{counts_of, state_of, handled_of};
 ghost use Rattle.board.specs.Requests.{call_for};
@@ -25,8 +25,8 @@ fn request_of(line: &Line) -> Option<Request>
     match line.kind {
         Kind::Open => Some(Request::Open(line.columns[0])),
         Kind::Accept => Some(Request::Accept(line.order())),
-        Kind::Withdraw => Some(Request::Withdraw(line.columns[0])),
-        Kind::Start => Some(Request::Start(line.columns[0])),
+        Kind::Withdraw => Some(Request::Withdraw(line.key())),
+        Kind::Start => Some(Request::Start(line.key())),
         Kind::Print => Some(Request::Print),
         Kind::Total => None,
     }
@@ -49,12 +49,23 @@ fn answer_to(
     }
 }
 
-// The number that the answer line shows: P shows the orders held, 0 if refused; any other line its first number.
+// "code (0 where the line has none)" (P3)
+fn shown_code(line: &Line) -> u16
+    ensures { result ≡ shown_code (kind_letter line.now.kind) line.now.columns }
+{
+    match line.kind {
+        Kind::Accept | Kind::Withdraw | Kind::Start => line.key().code,
+        Kind::Open | Kind::Print | Kind::Total => 0,
+    }
+}
+
+// The number that the answer line shows: P shows the orders held, 0 if refused; a line that has a code the order's number, any other its first number.
 fn shown_number(line: &Line, answer: Answer, board: &[u16]) -> u16
     ensures { Shows line.now answer board.now result }
 {
     match line.kind {
-        Kind::Open | Kind::Accept | Kind::Withdraw | Kind::Start | Kind::Total => line.columns[0],
+        Kind::Accept | Kind::Withdraw | Kind::Start => line.key().number,
+        Kind::Open | Kind::Total => line.columns[0],
         Kind::Print => match answer {
             Ok(_) => held_of(board),
             Err(_) => 0,
@@ -67,7 +78,7 @@ fn note_line(line: &Line, tally: &mut Tally)
     ensures { counts_of tally.new ≡ noted (kind_letter line.now.kind) line.now.columns (counts_of tally.old) }
 {
     match line.kind {
-        Kind::Accept => tally.note_order(line.columns[0]),
+        Kind::Accept => tally.note_order(line.key().number),
         Kind::Total => tally.restart_total(),
         Kind::Open | Kind::Withdraw | Kind::Start | Kind::Print => (),
     }
@@ -85,8 +96,9 @@ fn asked_line(
 {
     let answer = answer_to(line, board, work, tally, known);
     let number = shown_number(line, answer, board);
+    let code = shown_code(line);
     note_line(line, tally);
-    replied(line.kind.letter(), number, answer, tally)
+    replied(line.kind.letter(), code, number, answer, tally)
 }
 
 // A line, without its line feed, by what is known. The tally is brought up to date.

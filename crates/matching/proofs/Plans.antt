@@ -1,4 +1,4 @@
--- A plan, which is a function from orders to slots, against a plan as a list of seats: each gives the other where no number stands twice.
+-- A plan, which is a function from orders to slots, against a plan as a list of seats: each gives the other where no order stands twice.
 use mathlib.Core.Path.{◌≡◌, sym, ap, ◌∙◌, subst}
 use mathlib.Core.Bool.{Bool, not, cond, true, false}
 use mathlib.Core.Logic.{◌⊎◌, inl, inr}
@@ -8,10 +8,11 @@ use mathlib.Core.List.Memᴰ.{tail as there}
 use mathlib.Core.List.{List, [], ◌∷◌, map, Memᴰ as Mem}
 use Prim.Native.Nat.{ℕ, ◌≤◌}
 use native.Mathlib.Omega.{arith}
-use lib.Dec.{T, eqb, eqb_refl, not_T, T_not}
+use lib.Dec.{T, eqb, not_T, T_not}
 use Rattle.matching.specs.Lists.{count_if, member, all}
-use Rattle.matching.specs.Orders.{Order, open_slots, started, Seat, seat, SameOrders, orders, same_number, Plan}
+use Rattle.matching.specs.Orders.{Key, Order, open_slots, started, Seat, seat, SameOrders, orders, same_order, Plan}
 use Rattle.matching.proofs.Counting.{indicator-of, dec-T, cond_yes, cond_no, count_if-map, count_if-mono, count_if-none, member_of, of-member}
+use Rattle.matching.proofs.Keys.{same-self}
 use Rattle.matching.proofs.Seats.{sits_in, SeatPlan}
 use Rattle.matching.proofs.Sets.{all-at, all_of}
 
@@ -30,29 +31,29 @@ to-seats c os p = record {
     f : Order → Seat
     f o = seat o (p.slot_of o)
 
--- ---- and back: an order's slot is that of the seat with its number
+-- ---- and back: an order's slot is that of the seat with its key
 
-pub seat_of : List Seat → ℕ → ℕ
+pub seat_of : List Seat → Key → ℕ
 seat_of [] k = 0
-seat_of (p ∷ ps) k = let rest = seat_of ps k in cond (eqb p.who.number k) p.slot rest
+seat_of (p ∷ ps) k = let rest = seat_of ps k in cond (same_order k p.who) p.slot rest
 
 pub count_if-pos : {A : Type 0} (P : A → Bool) {a : A} {l : List A} → Mem a l → T (P a) → 1 ≤ count_if P l
 count_if-pos P (here {x = b} e) t = omega (arith, indicator-of (P b) (subst (λ c. T (P c)) e t))
 count_if-pos P (there m) t = omega (arith, count_if-pos P m t)
 
-slot-found : (ss : List Seat) → ((k : ℕ) → count_if (λ (p : Seat). same_number k p.who) ss ≤ 1) → (p : Seat) → Mem p ss → seat_of ss p.who.number ≡ p.slot
+slot-found : (ss : List Seat) → ((k : Key) → count_if (λ (p : Seat). same_order k p.who) ss ≤ 1) → (p : Seat) → Mem p ss → seat_of ss p.who.key ≡ p.slot
 unfolding seat_of
 slot-found [] u p m = elim m [ ]
 slot-found (q ∷ ss) u p (here e) =
-    cond_yes (eqb q.who.number p.who.number) q.slot (seat_of ss p.who.number) (subst (λ (r : Seat). T (eqb r.who.number p.who.number)) e (eqb_refl p.who.number))
+    cond_yes (same_order p.who.key q.who) q.slot (seat_of ss p.who.key) (subst (λ (r : Seat). T (same_order p.who.key r.who)) e (same-self p.who))
     ∙ sym (ap (λ (r : Seat). r.slot) e)
 slot-found (q ∷ ss) u p (there m) =
-    cond_no (eqb q.who.number p.who.number) q.slot (seat_of ss p.who.number)
-    (not_T (eqb q.who.number p.who.number) (λ t. omega (
+    cond_no (same_order p.who.key q.who) q.slot (seat_of ss p.who.key)
+    (not_T (same_order p.who.key q.who) (λ t. omega (
       arith,
-      u p.who.number,
-      indicator-of (eqb q.who.number p.who.number) t,
-      count_if-pos (λ (r : Seat). same_number p.who.number r.who) m (eqb_refl p.who.number),
+      u p.who.key,
+      indicator-of (same_order p.who.key q.who) t,
+      count_if-pos (λ (r : Seat). same_order p.who.key r.who) m (same-self p.who),
     )))
     ∙ slot-found ss (λ k. omega (arith, u k)) p m
 
@@ -68,7 +69,7 @@ same-all os os' P s t = all_of P os' (λ o m. go o m (dec-T (P o)))
       count_if-none (λ q. not (P q)) os (λ q k. not_T (not (P q)) (λ f. T_not (P q) f (all-at P os t k))),
     ))
 
-pub to_function : (c : ℕ) (os : List Order) → ((k : ℕ) → count_if (same_number k) os ≤ 1) → SeatPlan c os → Plan c os
+pub to_function : (c : ℕ) (os : List Order) → ((k : Key) → count_if (same_order k) os ≤ 1) → SeatPlan c os → Plan c os
 to_function c os u p = record {
   slot_of = f;
   own = same-all (orders ss) os (λ o. member (f o) (open_slots o)) p.each (all_of (λ o. member (f o) (open_slots o)) (orders ss) own');
@@ -85,10 +86,10 @@ to_function c os u p = record {
     ss = p.seats
 
     f : Order → ℕ
-    f o = seat_of ss o.number
+    f o = seat_of ss o.key
 
-    once : (k : ℕ) → count_if (λ (q : Seat). same_number k q.who) ss ≤ 1
-    once k = omega (arith, count_if-map (λ (q : Seat). q.who) (same_number k) ss, p.each (same_number k), u k)
+    once : (k : Key) → count_if (λ (q : Seat). same_order k q.who) ss ≤ 1
+    once k = omega (arith, count_if-map (λ (q : Seat). q.who) (same_order k) ss, p.each (same_order k), u k)
 
     at : (q : Seat) → Mem q ss → f q.who ≡ q.slot
     at q m = slot-found ss once q m

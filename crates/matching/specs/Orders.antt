@@ -1,11 +1,24 @@
 -- Orders, who sits where, and plans. `c` is how many orders a slot may hold; document 01 has 1.
-use Rattle.std.specs.Prelude.{◌≡◌, Bool, not, cond, List, [], ◌∷◌, ◌++◌, map, ℕ, ◌*◌, ◌≤◌, ◌<◌, T, eqb, length}
+use Rattle.std.specs.Prelude.{◌≡◌, Bool, not, ◌&&◌, cond, List, [], ◌∷◌, ◌++◌, map, ℕ, ◌*◌, ◌≤◌, ◌<◌, T, eqb, leb, length}
 use Rattle.matching.specs.Lists.{count_if, all, member, within, slots}
 
--- "An order has a number, 1 to 65,535, and a list of 1 to 8 different slots in rising order." `fixed` is the slot in which a started order stays (P1),
--- 0 where the order is not started.
-pub record Order : Type 0 where
+-- What tells an order from all others: "Order 100 from one printer and order 100 from another are two orders" (P3), so the code of the customer and the
+-- order's number.
+pub record Key : Type 0 where
+  pub code : ℕ
   pub number : ℕ
+
+-- "16, code not 1 to 999" (P3)
+abbrev pub most_code : ℕ
+most_code = 999
+
+abbrev pub good_code : ℕ → Bool
+good_code c = leb 1 c && leb c most_code
+
+-- "An order has a number, 1 to 65,535, and a list of 1 to 8 different slots in rising order." Its code is 1 to 999 (P3). `fixed` is the slot in which a
+-- started order stays (P1), 0 where the order is not started.
+pub record Order : Type 0 where
+  pub key : Key
   pub list : List ℕ
   pub fixed : ℕ
 
@@ -16,13 +29,13 @@ started o = not (eqb o.fixed 0)
 unfoldable pub open_slots : Order → List ℕ
 open_slots o = cond (eqb o.fixed 0) o.list (o.fixed ∷ [])
 
--- Two orders are the same order if their numbers are equal: what "held already", "not held" and "no order number stands twice" go by.
-abbrev pub same_number : ℕ → Order → Bool
-same_number k o = eqb o.number k
+-- "Two orders are the same only if code and number both agree" (P3): what "held already", "not held" and "no order .. stands twice" go by.
+abbrev pub same_order : Key → Order → Bool
+same_order k o = eqb o.key.code k.code && eqb o.key.number k.number
 
 -- order k is started in slot s; every other order stays as it is
-abbrev pub started_in : ℕ → ℕ → Order → Order
-started_in k s o = record { number = o.number; list = o.list; fixed = cond (same_number k o) s o.fixed }
+abbrev pub started_in : Key → ℕ → Order → Order
+started_in k s o = record { key = o.key; list = o.list; fixed = cond (same_order k o) s o.fixed }
 
 -- These lists hold the same orders, each as often: every test passes as many of the one as of the other.
 abbrev pub SameOrders : List Order → List Order → Type 0

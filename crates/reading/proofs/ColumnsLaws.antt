@@ -4,8 +4,8 @@ use Rattle.std.proofs.lemmas.Bool.Decides.{nat_tests}
 use Rattle.std.proofs.Math.Seq.{take-append-add}
 use Rattle.std.specs.Option.{is_some}
 use Rattle.std.proofs.lemmas.List.{take_more_set, take_all, take-replicate, drop-replicate}
-use Rattle.rules.specs.InputLines.{column_bytes, is_column, column_value}
-use Rattle.reading.specs.Reading.{most_columns, ten_columns}
+use Rattle.rules.specs.InputLines.{column_bytes, most_columns, is_column, column_value}
+use Rattle.reading.specs.Reading.{all_columns}
 use Rattle.reading.specs.Reader.{past_columns}
 use Rattle.reading.specs.Machine.{cell_of, columns_at, gathered}
 
@@ -35,16 +35,16 @@ module _ (s : List ℕ) (p n i : ℕ) (low : i < n) where
     gathered_stop cell = rw left (grind (arith, nat_tests))
 
 -- as they are stored
-pub stored-ten : (vs : List ℕ) → length vs ≤ most_columns → vs ++ drop (length vs) (replicate most_columns 0) ≡ ten_columns vs
-stored-ten vs h =
+pub stored-columns : (vs : List ℕ) → length vs ≤ most_columns → vs ++ drop (length vs) (replicate most_columns 0) ≡ all_columns vs
+stored-columns vs h =
     let k = most_columns - length vs in
-    let ten : length vs + k ≡ most_columns = omega arith in
+    let all : length vs + k ≡ most_columns = omega arith in
     ap (λ (l : List ℕ). vs ++ l) (drop-replicate (length vs) most_columns 0 ∙ sym (take-replicate k most_columns 0 (omega arith)))
-    ∙ sym (take-append-add vs (replicate most_columns 0) k) ∙ ap (λ (j : ℕ). take j (vs ++ replicate most_columns 0)) ten
+    ∙ sym (take-append-add vs (replicate most_columns 0) k) ∙ ap (λ (j : ℕ). take j (vs ++ replicate most_columns 0)) all
 
 pub gathered_all : (s vs : List ℕ) (p n i : ℕ) → n ≤ most_columns → length vs ≡ n → n ≤ i → gathered (take i vs) (columns_at s p (n - i)) ≡ Some (vs ++ drop n (replicate most_columns 0))
 gathered_all s vs p n i few long end =
     let none : n - i ≡ 0 = omega arith in
-    rw (none, take_all i vs (omega arith), append-nil, ← long) (ap Some (sym (stored-ten vs (omega arith))))
+    rw (none, take_all i vs (omega arith), append-nil, ← long) (ap Some (sym (stored-columns vs (omega arith))))
 
 pub ruleset gathers = (past_more, past_stop, gathered_more, gathered_stop, gathered_all)

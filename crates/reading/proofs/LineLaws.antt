@@ -8,14 +8,14 @@ use Rattle.std.proofs.lemmas.Bool.Decides.{nat_tests}
 use Rattle.std.proofs.lemmas.Bool.{le-leb, eq-eqb, ne_eqb, leb-true, eqb-true, and_parts, and_from, and_left, and_right}
 use Rattle.std.proofs.lemmas.List.{length-map}
 use Rattle.matching.specs.Lists.{all, any}
-use Rattle.rules.specs.InputLines.{column_bytes, is_column, column_value, letter_of, column_count, columns_from, allowed, well_formed, values, line_refusal}
+use Rattle.rules.specs.InputLines.{column_bytes, is_column, column_value, letter_of, column_count, columns_from, most_columns, allowed, most_bytes, well_formed, values, line_refusal}
 use Rattle.rules.specs.Letters.{Letter, letter_s, letter_a, letter_w, letter_f, letter_p, letter_z, letter_x, letter_named}
 use Rattle.answers.specs.declared.Refusal.TheVariants.{Malformed, TooLarge}
 use Rattle.reading.specs.declared.Kind.{Kind}
-use Rattle.reading.specs.Reading.{kind_of, class_of, ten_columns, line_read, line_of}
+use Rattle.reading.specs.Reading.{kind_of, class_of, all_columns, line_read, line_of}
 use Rattle.reading.specs.Reader.{readable, past_columns, after_columns}
 use Rattle.reading.specs.Machine.{columns_at, gathered, narrowed}
-use Rattle.reading.proofs.NumberLaws.{any-ten}
+use Rattle.reading.proofs.NumberLaws.{any-columns}
 
 -- ---- a line's answer, by its form and its numbers
 
@@ -38,7 +38,7 @@ eqb-more a b = grind (arith, nat_tests)
 
 -- ---- the letters
 
--- a letter that may have so many columns is known, and they are at most ten
+-- a letter that may have so many columns is known, and they are not too many
 pub allowed-known : (x : Letter) (c : ℕ) → allowed x c ≡ true → kind_of x ≡ None → ⊥
 allowed-known letter_s c h e = cc
 allowed-known letter_a c h e = cc
@@ -48,11 +48,11 @@ allowed-known letter_p c h e = cc
 allowed-known letter_z c h e = cc
 allowed-known letter_x c h e = cc
 
-allowed-few : (x : Letter) (c : ℕ) → allowed x c ≡ true → c ≤ 10
+allowed-few : (x : Letter) (c : ℕ) → allowed x c ≡ true → c ≤ most_columns
 allowed-few letter_s c h = omega (arith, eqb-true c 1 h)
-allowed-few letter_a c h = leb-true c 10 (and_parts (leb 1 c) (leb c 10) h).1
-allowed-few letter_w c h = omega (arith, eqb-true c 1 h)
-allowed-few letter_f c h = omega (arith, eqb-true c 1 h)
+allowed-few letter_a c h = leb-true c most_columns (and_parts (leb 2 c) (leb c most_columns) h).1
+allowed-few letter_w c h = omega (arith, eqb-true c 2 h)
+allowed-few letter_f c h = omega (arith, eqb-true c 2 h)
 allowed-few letter_p c h = omega (arith, eqb-true c 0 h)
 allowed-few letter_z c h = omega (arith, eqb-true c 2 h)
 allowed-few letter_x c h = absurd cc
@@ -135,11 +135,11 @@ module _ (x : ℕ) (s : List ℕ) (at left : ℕ) (measured : left ≡ length s 
     known : allowed (letter_named x) count ≡ true
     known = grind (arith, nat_tests)
 
-    few : count ≤ 10
+    few : count ≤ most_columns
     few = allowed-few (letter_named x) count known
 
     read : readable x left ≡ true
-    read = and_from _ _ (and_from _ _ (le-leb (1 + left) 61 (omega (arith, few))) (eq-eqb left (6 * count) (omega arith))) known
+    read = and_from _ _ (and_from _ _ (le-leb (1 + left) most_bytes (omega (arith, few))) (eq-eqb left (6 * count) (omega arith))) known
 
     formed : well_formed line ≡ all is_column (columns_at s at count)
     formed = formed-is ∙ rw read
@@ -155,11 +155,11 @@ module _ (x : ℕ) (s : List ℕ) (at left : ℕ) (measured : left ≡ length s 
       whole : well_formed line ≡ true
       whole = grind (arith, nat_tests, formed)
 
-      ten : ten_columns (values line) ≡ vs
-      ten = grind (arith, nat_tests, values-are)
+      all-read : all_columns (values line) ≡ vs
+      all-read = grind (arith, nat_tests, values-are)
 
       large-is : any (ltb 65535) vs ≡ any (ltb 65535) (values line)
-      large-is = ap (any (ltb 65535)) (sym ten) ∙ any-ten (values line) (rw values-are (simp (length-map, length-columns_at) few))
+      large-is = ap (any (ltb 65535)) (sym all-read) ∙ any-columns (values line) (rw values-are (simp (length-map, length-columns_at) few))
 
       pub large_line : narrowed vs ≡ None → line_of line ≡ Err TooLarge
       large_line e = line-large line whole (grind (arith, nat_tests, large-is))
@@ -169,7 +169,7 @@ module _ (x : ℕ) (s : List ℕ) (at left : ℕ) (measured : left ≡ length s 
           let small : any (ltb 65535) (values line) ≡ false = grind (arith, nat_tests, large-is) in
           let named : kind_of (letter_named x) ≡ Some kind = grind (arith, nat_tests) in
           let same : vs ≡ ws = grind (arith, nat_tests) in
-          line-fine line kind whole small named ∙ ap₂ (λ (m : ℕ) (us : List ℕ). Ok (record { kind = kind; count = m; columns = us })) count-is (ten ∙ same)
+          line-fine line kind whole small named ∙ ap₂ (λ (m : ℕ) (us : List ℕ). Ok (record { kind = kind; count = m; columns = us })) count-is (all-read ∙ same)
 
 -- ---- a line without a letter
 pub empty_line : (l : List ℕ) → slice_get l 0 ≡ None → line_of l ≡ Err Malformed

@@ -5,9 +5,10 @@ use Rattle.std.proofs.lemmas.Grind.{same_number_lists}
 use Rattle.std.proofs.lemmas.List.{drop-replicate}
 use Rattle.matching.specs.Lists.{any}
 use Rattle.rules.proofs.Cutting.{either}
-use Rattle.reading.specs.Reading.{most_columns, ten_columns}
+use Rattle.rules.specs.InputLines.{most_columns}
+use Rattle.reading.specs.Reading.{all_columns}
 use Rattle.reading.specs.Machine.{narrowed}
-use Rattle.reading.proofs.ColumnsLaws.{stored-ten}
+use Rattle.reading.proofs.ColumnsLaws.{stored-columns}
 
 any-large : (vs : List ℕ) (i : ℕ) → i < length vs → 65535 < get_or vs i 0 → any (ltb 65535) vs ≡ true
 any-large [] i low large = absurd (omega arith)
@@ -33,9 +34,9 @@ any-before_zeros [] n = any-zeros n
 any-before_zeros (v ∷ vs) n = either (ltb 65535 v) (λ e. rw e) (λ e. rw e (any-before_zeros vs n))
 
 -- the zeros behind a line's numbers are none
-pub any-ten : (vs : List ℕ) → length vs ≤ most_columns → any (ltb 65535) (ten_columns vs) ≡ any (ltb 65535) vs
-any-ten vs h =
-    ap (any (ltb 65535)) (sym (stored-ten vs h) ∙ ap (λ (l : List ℕ). vs ++ l) (drop-replicate {X = ℕ} (length vs) most_columns 0))
+pub any-columns : (vs : List ℕ) → length vs ≤ most_columns → any (ltb 65535) (all_columns vs) ≡ any (ltb 65535) vs
+any-columns vs h =
+    ap (any (ltb 65535)) (sym (stored-columns vs h) ∙ ap (λ (l : List ℕ). vs ++ l) (drop-replicate {X = ℕ} (length vs) most_columns 0))
     ∙ any-before_zeros vs (most_columns - length vs)
 
 pub ruleset narrows = (narrowed_none, narrowed_some)

@@ -19,7 +19,7 @@ cases =
     -- refused by 2
     ∷ (line_of_columns (byte_of letter_a) (70000 ∷ 1 ∷ []), 13)
     -- a byte too many; a column too many for S; a line that is too long
-    ∷ (line_of_columns (byte_of letter_s) (8 ∷ []) ++ (space ∷ []), 1) ∷ (line_of_columns (byte_of letter_s) (8 ∷ 9 ∷ []), 1) ∷ (line_of_columns (byte_of letter_a) (replicate 11 1), 1) ∷ []
+    ∷ (line_of_columns (byte_of letter_s) (8 ∷ []) ++ (space ∷ []), 1) ∷ (line_of_columns (byte_of letter_s) (8 ∷ 9 ∷ []), 1) ∷ (line_of_columns (byte_of letter_a) (replicate 12 1), 1) ∷ []
 
 abbrev holds : List ℕ × ℕ → Bool
 holds c = eqb (after_columns (get_or c.0 0 0) c.0 (after_letter c.0 0)) c.1

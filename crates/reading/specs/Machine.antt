@@ -5,7 +5,7 @@ use Rattle.std.specs.Option.{option_and_then}
 use Rattle.matching.specs.Lists.{all, any}
 use Rattle.rules.specs.InputLines.{column_bytes, is_digit, is_column, column_value}
 use Rattle.rules.specs.Text.{space}
-use Rattle.reading.specs.Reading.{ten_columns}
+use Rattle.reading.specs.Reading.{all_columns}
 use Rattle.reading.specs.declared.State.{State}
 use Rattle.reading.specs.declared.State.TheVariants.{Blank, Zero, Number}
 
@@ -39,9 +39,9 @@ abbrev pub columns_at : List ℕ → ℕ → ℕ → List (List ℕ)
 columns_at s at zero = []
 columns_at s at (suc k) = take column_bytes (drop at s) ∷ columns_at s (at + column_bytes) k
 
--- their numbers after those that were read, as ten
+-- their numbers after those that were read, as a line's
 abbrev pub gathered : List ℕ → List (List ℕ) → Option (List ℕ)
-gathered vs ts = cond (all is_column ts) (Some (ten_columns (vs ++ map column_value ts))) None
+gathered vs ts = cond (all is_column ts) (Some (all_columns (vs ++ map column_value ts))) None
 
 -- as words, where each is one
 abbrev pub narrowed : List ℕ → Option (List ℕ)

@@ -1,7 +1,7 @@
 -- A line as the reader gives it: its kind and numbers, or the refusal of document 01's table. Bytes are without the line feed.
 use Rattle.std.specs.Prelude.{cond, List, ◌++◌, ℕ, ◌-◌, Option, Some, None, Result, Err, min, eqb, take, get_or, replicate}
 use Rattle.std.specs.Option.{ok_or, option_map}
-use Rattle.rules.specs.InputLines.{letter_of, column_count, allowed, values, line_refusal}
+use Rattle.rules.specs.InputLines.{letter_of, column_count, most_columns, allowed, values, line_refusal}
 use Rattle.rules.specs.Layout.{most_choices, reads}
 use Rattle.rules.specs.Letters.{Letter, letter_s, letter_a, letter_w, letter_f, letter_p, letter_z, letter_x}
 use Rattle.answers.specs.declared.Refusal.{Refusal}
@@ -41,16 +41,13 @@ refused_as refusal = cond (eqb refusal 1) Malformed TooLarge
 
 -- ---- the line
 
--- "A has one to ten": a line's numbers travel as ten, unused ones 0
-abbrev pub most_columns : ℕ
-most_columns = 10
-
-abbrev pub ten_columns : List ℕ → List ℕ
-ten_columns vs = take most_columns (vs ++ replicate most_columns 0)
+-- a line's numbers travel as the most that a line has, unused ones 0
+abbrev pub all_columns : List ℕ → List ℕ
+all_columns vs = take most_columns (vs ++ replicate most_columns 0)
 
 -- a line of this kind
 abbrev pub line_read : List ℕ → Kind → Line
-line_read l kind = record { kind = kind; count = column_count l; columns = ten_columns (values l) }
+line_read l kind = record { kind = kind; count = column_count l; columns = all_columns (values l) }
 
 -- A line that is not refused begins with a known letter, so `Malformed` never stands for an unknown one here (`LineUses.refused-as`).
 unfoldable pub line_of : List ℕ → Result Line Refusal
@@ -58,6 +55,11 @@ line_of l =
     let code = line_refusal l in
     cond (eqb code 0) (ok_or (option_map (line_read l) (kind_of (letter_of l))) Malformed) (Err (refused_as code))
 
--- the order that a line's numbers give: "A: the order's number, then its slots". It is not started.
+-- the order that a line's numbers give: "a customer code as first column" (P3), the order's number, "then its slots". It is not started.
 abbrev pub line_order : Line → Order
-line_order l = record { number = get_or l.columns 0 0; count = min l.count most_columns - 1; row = reads l.columns 1 most_choices; fixed = 0 }
+line_order l = record {
+  key = record { code = get_or l.columns 0 0; number = get_or l.columns 1 0 };
+  count = min l.count most_columns - 2;
+  row = reads l.columns 2 most_choices;
+  fixed = 0;
+}

@@ -1,18 +1,21 @@
-// A line from the printers: its bytes, without the line feed, as a kind and up to ten numbers, or as refusal 1 or 2.
+// A line from the printers: its bytes, without the line feed, as a kind and up to eleven numbers, or as refusal 1 or 2.
 #![tactic(auto)]
 
 ghost use Rattle.std.specs.Prelude.{◌≡◌, [], ◌∷◌, ◌≤◌, drop, slice_get, take};
-ghost use Rattle.rules.specs.InputLines.{column_bytes};
+ghost use Rattle.rules.specs.InputLines.{column_bytes, most_columns};
 ghost use Rattle.rules.specs.Letters.{byte_of, letter_named};
-ghost use Rattle.reading.specs.Reading.{kind_letter, class_of, line_of, line_order, most_columns};
+ghost use Rattle.reading.specs.Reading.{kind_letter, class_of, line_of, line_order};
 ghost use Rattle.reading.specs.Reader.{after_letter, past_columns, after_columns, Moves};
 ghost use Rattle.reading.specs.Machine.{step_of, held_by, ended, cell_of, columns_at, gathered, narrowed};
 
 use answers::Refusal;
 use framing::COLUMN_BYTES;
-use words::Order;
+use words::{Key, Order};
 
-const MOST_COLUMNS: usize = 10;
+const MOST_COLUMNS: usize = 11;
+
+// A customer's code and an order's number.
+const KEY_COLUMNS: usize = 2;
 
 #[derive(Clone, Copy, Debug, PartialEq, Eq)]
 pub enum Kind {
@@ -33,9 +36,9 @@ impl Kind {
     {
         match (letter, count) {
             (b'S', 1) => Some(Kind::Open),
-            (b'A', 1..=MOST_COLUMNS) => Some(Kind::Accept),
-            (b'W', 1) => Some(Kind::Withdraw),
-            (b'F', 1) => Some(Kind::Start),
+            (b'A', 2..=MOST_COLUMNS) => Some(Kind::Accept),
+            (b'W', 2) => Some(Kind::Withdraw),
+            (b'F', 2) => Some(Kind::Start),
             (b'P', 0) => Some(Kind::Print),
             (b'Z', 2) => Some(Kind::Total),
             _ => None,
@@ -57,8 +60,8 @@ impl Kind {
     }
 }
 
-// A line that is read: its columns as ten numbers and their count, 0 for each that it does not have. Its numbers are those of the line, also where a
-// call could not carry them, as a ninth slot. Kind and columns stand apart, and are no enum with numbers: every kind but Print answers with the first column.
+// A line that is read: its columns as eleven numbers and their count, 0 for each that it does not have. Its numbers are those of the line, also where a
+// call could not carry them, as a ninth slot. Kind and columns stand apart, and are no enum with numbers: every kind but Print answers with its first columns.
 // An array with its count, and no ArrayVec: a Line is copied, and an ArrayVec is not Copy.
 #[derive(Clone, Copy, Debug, PartialEq, Eq)]
 pub struct Line {
@@ -68,14 +71,24 @@ pub struct Line {
 }
 
 impl Line {
+    // The key of the order that a line brings in or names: "a customer code as first column" (P3), and the order's number.
+    pub fn key(&self) -> Key
+        ensures { result ≡ (line_order self.now).key }
+    {
+        Key {
+            code: self.columns[0],
+            number: self.columns[1],
+        }
+    }
+
     // The order that a line's columns give, as it is sent: not started. Those after the number are the slots, and the first eight the row: check 8 turns a
     // ninth down. At most nine: the cast loses nothing.
     pub fn order(&self) -> Order
         ensures { result ≡ line_order self.now }
     {
-        let [number, a, b, c, d, e, f, g, h, _ninth] = self.columns;
-        let slots = self.count.min(MOST_COLUMNS).saturating_sub(1);
-        Order::new(number, slots as u16, [a, b, c, d, e, f, g, h])
+        let [_code, _number, a, b, c, d, e, f, g, h, _ninth] = self.columns;
+        let slots = self.count.min(MOST_COLUMNS).saturating_sub(KEY_COLUMNS);
+        Order::new(self.key(), slots as u16, [a, b, c, d, e, f, g, h])
     }
 }
 
@@ -185,7 +198,7 @@ impl<'a> LineReader<'a> {
     }
 
     // The line of this letter whose columns are all that is left. The reader moves past the columns that were read: after a refusal it stands where
-    // reading stopped. The form, the whole of it, comes before the numbers. Of more than 61 bytes some are left over, or they are too many columns.
+    // reading stopped. The form, the whole of it, comes before the numbers. Of more than 67 bytes some are left over, or they are too many columns.
     #[tactic(auto, using(crate::proofs::LineLaws::lines))]
     fn take_columns(&mut self, letter: u8) -> Result<Line, Refusal>
         ensures line { result ≡ line_of (letter ∷ drop self.old.at self.old.line.now) }

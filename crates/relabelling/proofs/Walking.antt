@@ -16,14 +16,14 @@ pub labels-done : (w : List ℕ) (s : ℕ) → s ≤ 0 → relabelled_all w (slo
 unfolding relabelled_all
 labels-done w s h = let e : s ≡ 0 = omega arith in ap (λ (j : ℕ). relabelled_all w (slots j)) e
 
-pub stays : (w : List ℕ) (at : ℕ) → Settled (word w at) (word w (at + 1)) → relabelled_from w at ≡ w
+pub stays : (w : List ℕ) (at : ℕ) → Settled (word w (at + 1)) (word w (at + 2)) → relabelled_from w at ≡ w
 stays w at (inl e) = rw e
-stays w at (inr e) = either (eqb (word w at) 0)
+stays w at (inr e) = either (eqb (word w (at + 1)) 0)
   where
-    same : set w (at + 1) 1 ≡ w
-    same = ap (set w (at + 1)) (sym e) ∙ set-get_or w (at + 1) 0
+    same : set w (at + 2) 1 ≡ w
+    same = ap (set w (at + 2)) (sym e) ∙ set-get_or w (at + 2) 0
 
-    either : (b : Bool) → cond b w (set w (at + 1) 1) ≡ w
+    either : (b : Bool) → cond b w (set w (at + 2) 1) ≡ w
     either true = refl
     either false = same
 

@@ -8,7 +8,7 @@ abbrev pub Settled : ℕ → ℕ → Type 0
 Settled number label = (number ≡ 0) ⊎ (label ≡ 1)
 
 abbrev pub relabelled_from : List ℕ → ℕ → List ℕ
-relabelled_from w at = cond (eqb (word w at) 0) w (set w (at + 1) 1)
+relabelled_from w at = cond (eqb (word w (at + 1)) 0) w (set w (at + 2) 1)
 
 -- so many slots, the highest first; the lowest begins at `at`
 unfoldable pub relabelled_run : List ℕ → ℕ → ℕ → List ℕ

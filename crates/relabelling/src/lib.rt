@@ -8,7 +8,7 @@ ghost use Rattle.rules.specs.Layout.{board_words, slot_words};
 ghost use Rattle.relabelling.specs.Relabelled.{Settled, relabelled_from, relabelled_run};
 
 use storing::put_label;
-use words::{LABEL, NO_ORDER, SLOT_WORDS, board_words, number_at, start_of};
+use words::{LABEL, NO_ORDER, NUMBER, SLOT_WORDS, board_words, number_at, start_of};
 
 // So many slots are looked at together: a walk slot by slot, with a branch at each, takes three times as long. (Counts in 16 bits take longer too.)
 const TOGETHER: usize = 8;
@@ -47,7 +47,7 @@ fn settled_in(board: &[u16], at: usize) -> bool
     requires { at + slot_words ≤ length board.now }
     ensures { result ≡ true → relabelled_from board.now at ≡ board.now }
 {
-    settled(board[at], board[at + LABEL])
+    settled(board[at + NUMBER], board[at + LABEL])
 }
 
 // Of the slots that are looked at together, the lowest of which begins at `at`.
@@ -63,7 +63,7 @@ fn relabel_in(board: &mut [u16], at: usize)
     requires { at + slot_words ≤ length board.old }
     ensures { board.new ≡ relabelled_from board.old at }
 {
-    if board[at] != NO_ORDER {
+    if board[at + NUMBER] != NO_ORDER {
         board[at + LABEL] = 1;
     }
 }

@@ -1,6 +1,7 @@
 -- A line that was read, and what is written of it.
 use Rattle.std.proofs.Common.{◌≡◌, ℕ, ◌+◌, ◌-◌, ◌≤◌, List, [], Option, Some, Result, Ok, Err, length, get_or, drop, refl, sym, ap, ◌∙◌, arith}
 use Rattle.std.proofs.lemmas.Bool.{ne_eqb}
+use Rattle.matching.specs.Orders.{Key}
 use Rattle.rules.specs.Calls.{Call, accept, first, order_checks}
 use Rattle.rules.specs.InputLines.{letter_of, values, line_refusal, call_of}
 use Rattle.rules.specs.Layout.{most_slots, row8}
@@ -30,7 +31,7 @@ module _ (l buffer : List ℕ) where
   refused-written why e = rw (refused-as l why e, ne_eqb (code why) 0 (λ z. omega (arith, code-some why)))
 
   -- read
-  by_kind : (x : Kind) (vs : List ℕ) → kind_written x (record { number = get_or vs 0 0; count = length vs - 1; row = row8 (drop 1 vs); fixed = 0 }) buffer ≡ call_written (call_of (kind_letter x) vs) buffer
+  by_kind : (x : Kind) (vs : List ℕ) → kind_written x (record { key = record { code = get_or vs 0 0; number = get_or vs 1 0 }; count = length vs - 2; row = row8 (drop 2 vs); fixed = 0 }) buffer ≡ call_written (call_of (kind_letter x) vs) buffer
   unfolding call_of
   by_kind Open vs = refl
   by_kind Accept vs = refl
@@ -52,8 +53,8 @@ module _ (l buffer : List ℕ) where
       go (Ok line) e = taken-written line e
       go (Err why) e = refused-written why e
 
-  -- an A line whose order passes 7 to 10, and one that is accepted
-  pub line_back : (line : Line) (k c : ℕ) (row : List ℕ) → line_of l ≡ Ok line → line.kind ≡ Accept → call_of (letter_of l) (values l) ≡ Some (accept k c row) → first (order_checks most_slots k c row []) ≡ 0 → length l + 1 ≤ length buffer
+  -- an A line whose order passes 16 and 7 to 10, and one that is accepted
+  pub line_back : (line : Line) (k : Key) (c : ℕ) (row : List ℕ) → line_of l ≡ Ok line → line.kind ≡ Accept → call_of (letter_of l) (values l) ≡ Some (accept k c row) → first (order_checks most_slots k c row []) ≡ 0 → length l + 1 ≤ length buffer
       → rewritten l buffer ≡ line_written l buffer
   unfolding WritesBack
   line_back line k c row e kind call clear room =

@@ -1,5 +1,6 @@
 -- A line is read, and where it is an A line its order is written.
 use Rattle.std.specs.Prelude.{◌≡◌, cond, List, [], ℕ, ◌+◌, ◌≤◌, Option, Some, None, Result, Ok, Err, eqb, length}
+use Rattle.matching.specs.Orders.{Key}
 use Rattle.rules.specs.Layout.{most_slots}
 use Rattle.rules.specs.Calls.{Call, open-board, accept, withdraw, start-order, print, first, order_checks}
 use Rattle.rules.specs.InputLines.{letter_of, values, line_refusal, call_of, Written, written}
@@ -7,6 +8,7 @@ use Rattle.rules.specs.RoundTrip.{line_written, AcceptedOrder}
 use Rattle.rules.specs.Runs.{State}
 use Rattle.answers.specs.Numbers.{code}
 use Rattle.answers.specs.declared.Refusal.{Refusal}
+use Rattle.words.specs.Carried.{key_of}
 use Rattle.words.specs.declared.Order.{Order}
 use Rattle.reading.specs.Reading.{line_of, line_order}
 use Rattle.reading.specs.declared.Kind.{Kind}
@@ -37,8 +39,8 @@ pub record ReadsWrites (l buffer : List ℕ) (r : RoundTrip) (buffer' : List ℕ
   pub read : r.line ≡ line_of l
   -- the writer's answer, and the whole buffer
   pub wrote : wrote_of r.wrote buffer' ≡ rewritten l buffer
-  -- an A line whose order passes 7 to 10 with 1,024 for n is written byte for byte where there is room for it and its line feed
-  pub back : (line : Line) (k c : ℕ) (row : List ℕ) → r.line ≡ Ok line → line.kind ≡ Accept → call_of (letter_of l) (values l) ≡ Some (accept k c row) → first (order_checks most_slots k c row []) ≡ 0
+  -- an A line whose order passes 16 and 7 to 10 with 1,024 for n is written byte for byte where there is room for it and its line feed
+  pub back : (line : Line) (k : Key) (c : ℕ) (row : List ℕ) → r.line ≡ Ok line → line.kind ≡ Accept → call_of (letter_of l) (values l) ≡ Some (accept k c row) → first (order_checks most_slots k c row []) ≡ 0
       → length l + 1 ≤ length buffer → wrote_of r.wrote buffer' ≡ line_written l buffer
   -- and so is an A line that is accepted, on whatever board
   pub accepted : (s : State) → AcceptedOrder l s → length l + 1 ≤ length buffer → wrote_of r.wrote buffer' ≡ line_written l buffer
@@ -46,7 +48,7 @@ pub record ReadsWrites (l buffer : List ℕ) (r : RoundTrip) (buffer' : List ℕ
 -- Internal: what is written of a line of this kind
 abbrev pub kind_written : Kind → Order → List ℕ → Written
 kind_written Open o buffer = unwritten 0 buffer
-kind_written Accept o buffer = written o.number o.count o.row buffer
+kind_written Accept o buffer = written (key_of o.key) o.count o.row buffer
 kind_written Withdraw o buffer = unwritten 0 buffer
 kind_written Start o buffer = unwritten 0 buffer
 kind_written Print o buffer = unwritten 0 buffer

@@ -2,6 +2,7 @@
 #![tactic(auto)]
 
 ghost use Rattle.std.specs.Prelude.{◌≡◌};
+ghost use Rattle.words.specs.Carried.{key_of};
 ghost use Rattle.writing.specs.Wrote.{wrote_of};
 ghost use Rattle.round_trip.specs.WriteRead.{WritesReads};
 ghost use Rattle.round_trip.specs.ReadWrite.{ReadsWrites, read_written};
@@ -19,10 +20,10 @@ pub struct RoundTrip {
 }
 
 // Writes an order, and reads the line that then stands in the buffer, without its line feed: no bytes where the order was refused. What is promised speaks of
-// number, count and row alone: a started order is written and read as one that is not.
+// key, count and row alone: a started order is written and read as one that is not.
 #[tactic(auto, using(crate::proofs::WriteReads::reads))]
 pub fn write_and_read(buffer: &mut [u8], order: Order) -> RoundTrip
-    ensures { WritesReads order.number order.count order.row buffer.old result buffer.new }
+    ensures { WritesReads (key_of order.key) order.count order.row buffer.old result buffer.new }
 {
     let wrote = write_order(buffer, order);
     let end = wrote.unwrap_or(0).saturating_sub(1);

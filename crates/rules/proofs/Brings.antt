@@ -11,7 +11,7 @@ use lib.Seq.{sets, sets-eq}
 use borrow.Author.Tests.{le-ltb}
 use Rattle.matching.specs.Blocking.{rounds, blocked}
 use Rattle.matching.specs.Lists.{filter, upward, count_if}
-use Rattle.matching.specs.Orders.{Order, Seat, seat, seats, orders, same_number}
+use Rattle.matching.specs.Orders.{Order, Seat, seat, seats, orders, same_order}
 use Rattle.matching.specs.Placing.{Result, refused, Ended, found, none, spent, outcome, follow, place}
 use Rattle.matching.proofs.Closure.{rounds-reach, whole}
 use Rattle.matching.proofs.Follow.{follows}
@@ -89,7 +89,7 @@ module _ (w work : List ℕ) (x : Order) (p : Passed w) (r : Ready (word w 0) x)
   fits : (ltb most_slots n || ltb (length clean) n) ≡ false
   fits = rw (le-ltb most_slots n p.big, le-ltb (length clean) n (omega (arith, length-cleared n work room)))
 
-  module _ (fresh : count_if (same_number x.number) (held w) ≡ 0) where
+  module _ (fresh : count_if (same_order x.key) (held w) ≡ 0) where
     accepts : (e : Ended (List ℕ)) → outcome e ≡ search → (search ≡ refused → ⊥) → searched w clean e ≡ finished w work x search
     unfolding finished
     accepts (found w' k) e f =

@@ -10,7 +10,7 @@ use native.Mathlib.Omega.{arith}
 use lib.Dec.{T, eqb, T_not}
 use borrow.Author.Tests.{eq-eqb, ne_eqb}
 use Rattle.matching.specs.Lists.{any, slots}
-use Rattle.matching.specs.Orders.{Order, Seat, same_number, seats}
+use Rattle.matching.specs.Orders.{Key, Order, Seat, orders, same_order, seats}
 use Rattle.matching.proofs.Counting.{cond_yes, cond_no, dec-T}
 use Rattle.matching.proofs.Seated.{seat-in, of-seat, in-slots, slots-range}
 use Rattle.matching.proofs.Sets.{any_of, of-any}
@@ -19,10 +19,10 @@ use Rattle.rules.specs.Layout.{size, number_at, order_at, held_at, view}
 use Rattle.rules.proofs.Bools.{is_true, is_false}
 use Rattle.rules.proofs.CheckLaws.{held_one}
 
-module _ (k : ℕ) (w : List ℕ) where
+module _ (k : Key) (w : List ℕ) where
   -- order k sits in slot s
   abbrev pub sits : ℕ → Bool
-  sits s = any (same_number k) (held_at w s)
+  sits s = any (same_order k) (held_at w s)
 
   -- ---- the look, a slot at a time
 
@@ -61,39 +61,46 @@ module _ (k : ℕ) (w : List ℕ) where
       go (inr n) (yes q) rest = subst (λ (j : ℕ). T (not (sits j))) (sym q) n
       go (inr n) (no q) rest = rest (sym (find-next m s n) ∙ e) (omega arith) (omega arith)
 
-  -- ---- and who is held
+  -- ---- and who is held, in the slots 1 .. n
 
-  held_in : (s : ℕ) → 1 ≤ s → s ≤ size w → T (sits s) → T (is_held k w)
-  held_in s lo hi t =
-      let o = of-any (same_number k) (held_at w s) t in
-      any_of (same_number k) (Memᴰ.map (λ (p : Seat). p.who) (seat-in (held_at w) (in-slots (size w) s lo hi) o.1)) o.2
+  module _ (n : ℕ) where
+    abbrev among : Bool
+    among = any (same_order k) (orders (seats n (view w)))
 
-  sits-somewhere : T (is_held k w) → (s : ℕ) × Mem s (slots (size w)) × T (sits s)
-  sits-somewhere t =
-      let o = of-any (same_number k) _ t in
-      let p = Memᴰ.of_map (λ (p : Seat). p.who) (seats (size w) (view w)) o.1 in
-      let q = of-seat (held_at w) (slots (size w)) p.1 in
-      (p.0.slot, q.0, any_of (same_number k) q.1 (subst (λ (x : Order). T (same_number k x)) (sym p.2) o.2))
+    held_in : (s : ℕ) → 1 ≤ s → s ≤ n → T (sits s) → T among
+    held_in s lo hi t =
+        let o = of-any (same_order k) (held_at w s) t in
+        any_of (same_order k) (Memᴰ.map (λ (p : Seat). p.who) (seat-in (held_at w) (in-slots n s lo hi) o.1)) o.2
 
-  not-zero : T (is_held k w) → slot_of k w ≡ 0 → ⊥
-  not-zero t e =
-      let s = sits-somewhere t in
-      let r = slots-range (size w) s.1 in
-      T_not (sits s.0) (missed (size w) 1 (omega arith) e s.0 r.0 (omega arith)) s.2
+    sits-somewhere : T among → (s : ℕ) × Mem s (slots n) × T (sits s)
+    sits-somewhere t =
+        let o = of-any (same_order k) _ t in
+        let p = Memᴰ.of_map (λ (p : Seat). p.who) (seats n (view w)) o.1 in
+        let q = of-seat (held_at w) (slots n) p.1 in
+        (p.0.slot, q.0, any_of (same_order k) q.1 (subst (λ (x : Order). T (same_order k x)) (sym p.2) o.2))
+
+    not-zero : T among → find_from w k n 1 ≡ 0 → ⊥
+    not-zero t e =
+        let s = sits-somewhere t in
+        let r = slots-range n s.1 in
+        T_not (sits s.0) (missed n 1 (omega arith) e s.0 r.0 (omega arith)) s.2
+
+    pub look_found : any (same_order k) (orders (seats n (view w))) ≡ not (eqb (find_from w k n 1) 0)
+    look_found = go (dec-T among) (ℕ_discrete (find_from w k n 1) 0)
+      where
+        go : T among ⊎ T (not among) → Dec (find_from w k n 1 ≡ 0) → among ≡ not (eqb (find_from w k n 1) 0)
+        go (inl t) (yes z) = absurd (not-zero t z)
+        go (inl t) (no z) = is_true among t ∙ sym (ap not (ne_eqb (find_from w k n 1) 0 z))
+        go (inr m) (yes z) = is_false among (T_not among m) ∙ sym (ap not (eq-eqb (find_from w k n 1) 0 z))
+        go (inr m) (no z) = let f = found n 1 z in absurd (T_not among m (held_in (find_from w k n 1) f.0 (omega arith) f.2))
 
   pub held_found : is_held k w ≡ not (eqb (slot_of k w) 0)
-  held_found = go (dec-T (is_held k w)) (ℕ_discrete (slot_of k w) 0)
-    where
-      go : T (is_held k w) ⊎ T (not (is_held k w)) → Dec (slot_of k w ≡ 0) → is_held k w ≡ not (eqb (slot_of k w) 0)
-      go (inl t) (yes z) = absurd (not-zero t z)
-      go (inl t) (no z) = is_true (is_held k w) t ∙ sym (ap not (ne_eqb (slot_of k w) 0 z))
-      go (inr n) (yes z) = is_false (is_held k w) (T_not (is_held k w) n) ∙ sym (ap not (eq-eqb (slot_of k w) 0 z))
-      go (inr n) (no z) = let f = found (size w) 1 z in absurd (T_not (is_held k w) n (held_in (slot_of k w) f.0 (omega arith) f.2))
+  held_found = look_found (size w)
 
   -- "the slot that order k sits in"
-  pub found_at : T (is_held k w) → (1 ≤ slot_of k w) × (slot_of k w ≤ size w) × T (same_number k (order_at w (slot_of k w))) × (number_at w (slot_of k w) ≡ 0 → ⊥)
+  pub found_at : T (is_held k w) → (1 ≤ slot_of k w) × (slot_of k w ≤ size w) × T (same_order k (order_at w (slot_of k w))) × (number_at w (slot_of k w) ≡ 0 → ⊥)
   found_at t =
-      let f = found (size w) 1 (not-zero t) in
-      let o = of-any (same_number k) (held_at w (slot_of k w)) f.2 in
+      let f = found (size w) 1 (not-zero (size w) t) in
+      let o = of-any (same_order k) (held_at w (slot_of k w)) f.2 in
       let h = held_one w (slot_of k w) o.0 o.1 in
-      (f.0, omega arith, subst (λ (x : Order). T (same_number k x)) h.1 o.2, λ z. omega (arith, h.0))
+      (f.0, omega arith, subst (λ (x : Order). T (same_order k x)) h.1 o.2, λ z. omega (arith, h.0))

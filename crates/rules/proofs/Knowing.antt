@@ -10,7 +10,7 @@ use lib.ListN.{length, set}
 use borrow.Author.Tests.{le-leb, lt-leb, le-ltb, ne_eqb}
 use Rattle.std.specs.Prelude.{Option, Some, None}
 use Rattle.matching.specs.Blocking.{blocked}
-use Rattle.matching.specs.Orders.{Order, seats}
+use Rattle.matching.specs.Orders.{Key, Order, seats}
 use Rattle.matching.specs.Placing.{Result, accepted, refused, unfinished, place}
 use Rattle.rules.specs.Calls.{Call, Answer, order, open-board, accept, withdraw, start-order, print, first, early, late, checks, board_checks, open_checks, cleared, shown, refused_late, undecided, finished, act, step}
 use Rattle.rules.specs.Check.{passes}
@@ -97,17 +97,17 @@ module _ (k : Known) (w work : List ℕ) (know : Knows k w work) where
     swept-finished x unfinished f = swept-late undecided
 
     -- each call that reads the board, once none of its checks turns it down
-    swept-accept : (j c : ℕ) (row : List ℕ) → first (checks (accept j c row) w work) ≡ 0 → Swept (act (accept j c row) w work)
+    swept-accept : (j : Key) (c : ℕ) (row : List ℕ) → first (checks (accept j c row) w work) ≡ 0 → Swept (act (accept j c row) w work)
     unfolding act
     swept-accept j c row e =
         swept-finished (order j c row) (place view (write_at n) n w (order j c row))
         (λ w' m h. let t = take_in w (order j c row) sound (ready j c row w work e) (fresh j c row w work e) w' m h in (t.passed, t.size))
 
-    swept-withdraw : (j : ℕ) → first (checks (withdraw j) w work) ≡ 0 → Swept (act (withdraw j) w work)
+    swept-withdraw : (j : Key) → first (checks (withdraw j) w work) ≡ 0 → Swept (act (withdraw j) w work)
     unfolding act
     swept-withdraw j e = let i = (acts (withdraw j) w work (ledger_of w) (inv-start w (gate-facts w work pass).0) e).inv in clean _ i.passed i.size
 
-    swept-start : (j : ℕ) → first (checks (start-order j) w work) ≡ 0 → Swept (act (start-order j) w work)
+    swept-start : (j : Key) → first (checks (start-order j) w work) ≡ 0 → Swept (act (start-order j) w work)
     unfolding act
     swept-start j e = let i = (acts (start-order j) w work (ledger_of w) (inv-start w (gate-facts w work pass).0) e).inv in clean _ i.passed i.size
 
@@ -149,15 +149,15 @@ module _ (k : Known) (w work : List ℕ) (know : Knows k w work) where
   unfolding known_after act
   open-past m e = rw (e, (goes (open-board m) w work e refl).1) (let i = (acts-open m w work (ledger_of w) e).inv in opens m _ i.passed i.size)
 
-  accept-past : (j c : ℕ) (row : List ℕ) → first (board_checks w work) ≡ 0 → After (accept j c row)
+  accept-past : (j : Key) (c : ℕ) (row : List ℕ) → first (board_checks w work) ≡ 0 → After (accept j c row)
   unfolding known_after
   accept-past j c row pass = rw (sym know.gate ∙ pass, past k w work know (accept j c row) pass) (swept_step pass (accept j c row) pass (swept-accept pass j c row))
 
-  withdraw-past : (j : ℕ) → first (board_checks w work) ≡ 0 → After (withdraw j)
+  withdraw-past : (j : Key) → first (board_checks w work) ≡ 0 → After (withdraw j)
   unfolding known_after
   withdraw-past j pass = rw (sym know.gate ∙ pass, past k w work know (withdraw j) pass) (swept_step pass (withdraw j) pass (swept-withdraw pass j))
 
-  start-past : (j : ℕ) → first (board_checks w work) ≡ 0 → After (start-order j)
+  start-past : (j : Key) → first (board_checks w work) ≡ 0 → After (start-order j)
   unfolding known_after
   start-past j pass = rw (sym know.gate ∙ pass, past k w work know (start-order j) pass) (swept_step pass (start-order j) pass (swept-start pass j))
 

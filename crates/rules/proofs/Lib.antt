@@ -20,7 +20,7 @@ pub mod Judging
 pub mod Main
 pub mod Cases
 pub mod Example
-pub mod ClosingRuns
+pub mod WorkedRuns
 pub mod Cutting
 pub mod Streams
 pub mod TextLaws

@@ -13,48 +13,49 @@ use lib.Dec.{T, eqb, eqb→eq, T_not}
 use lib.ListN.{length, take, drop, set, length-set}
 use lib.Seq.{get_or-set_same, get_or-set_other}
 use Rattle.matching.specs.Lists.{count_if, slots}
-use Rattle.matching.specs.Orders.{Order, open_slots, started, started_in, SameOrders, orders, seats, seats_of, same_number}
+use Rattle.matching.specs.Orders.{Key, Order, open_slots, started, started_in, SameOrders, orders, seats, seats_of, same_order}
 use Rattle.matching.proofs.Counting.{count_if-map, count_if-all}
+use Rattle.matching.proofs.Keys.{same-key, same-of, other-of}
 use Rattle.matching.proofs.Moves.{Ready, Good, total, sum}
 use Rattle.matching.proofs.Seated.{slots-range, in-slots}
 use Rattle.rules.specs.Calls.{is_held, is_started, slot_of, marked}
 use Rattle.rules.specs.Check.{zeros}
-use Rattle.rules.specs.Layout.{word, base, number_at, label_at, count_word, label_word, row_word, most_choices, started_mark, is_marked, choice_count, count_word_at, marked_at, count_at, row_at, list_at, order_at, held_at, view, held}
-use Rattle.rules.proofs.Bools.{is_false}
+use Rattle.rules.specs.Layout.{word, base, code_word, number_word, number_at, key_at, label_at, count_word, label_word, row_word, most_choices, started_mark, is_marked, choice_count, count_word_at, marked_at, count_at, row_at, list_at, order_at, held_at, view, held}
+use Rattle.rules.proofs.Bools.{is_true, is_false}
 use Rattle.rules.proofs.CheckLaws.{Agree, Tidy, tidy-same, held_same, label_same, held_one, held_none, held-some, Sound, Passed, open_own}
 use Rattle.rules.proofs.Finding.{found_at}
 use Rattle.rules.proofs.WordLaws.{reads_same}
 use Rattle.rules.proofs.Withdraw.{count_if-orders, count-two}
 
 -- where the order sits: there alone
-record Found (k : ℕ) (w : List ℕ) (s : ℕ) : Type 0 where
+record Found (k : Key) (w : List ℕ) (s : ℕ) : Type 0 where
   inside : Mem s (slots (word w 0))
-  number : number_at w s ≡ k
-  only : (t : ℕ) → Mem t (slots (word w 0)) → number_at w t ≡ k → t ≡ s
+  key : key_at w s ≡ k
+  only : (t : ℕ) → Mem t (slots (word w 0)) → key_at w t ≡ k → t ≡ s
 
-found : (k : ℕ) (w : List ℕ) → 1 ≤ k → Passed w → T (is_held k w) → Found k w (slot_of k w)
-found k w kp p has = record { inside = mine; number = its; only = λ t m e. go t m e (ℕ_discrete t (slot_of k w)) }
+found : (k : Key) (w : List ℕ) → 1 ≤ k.number → Passed w → T (is_held k w) → Found k w (slot_of k w)
+found k w kp p has = record { inside = mine; key = its; only = λ t m e. go t m e (ℕ_discrete t (slot_of k w)) }
   where
-    at : (1 ≤ slot_of k w) × (slot_of k w ≤ word w 0) × T (same_number k (order_at w (slot_of k w))) × (number_at w (slot_of k w) ≡ 0 → ⊥)
+    at : (1 ≤ slot_of k w) × (slot_of k w ≤ word w 0) × T (same_order k (order_at w (slot_of k w))) × (number_at w (slot_of k w) ≡ 0 → ⊥)
     at = found_at k w has
 
     mine : Mem (slot_of k w) (slots (word w 0))
     mine = in-slots (word w 0) (slot_of k w) at.0 at.1
 
-    its : number_at w (slot_of k w) ≡ k
-    its = eqb→eq (number_at w (slot_of k w)) k at.2
+    its : key_at w (slot_of k w) ≡ k
+    its = same-key k (order_at w (slot_of k w)) at.2
 
-    go : (t : ℕ) → Mem t (slots (word w 0)) → number_at w t ≡ k → Dec (t ≡ slot_of k w) → t ≡ slot_of k w
+    go : (t : ℕ) → Mem t (slots (word w 0)) → key_at w t ≡ k → Dec (t ≡ slot_of k w) → t ≡ slot_of k w
     go t m e (yes q) = q
     go t m e (no ne) = absurd (omega (arith, p.unique k, count-two k w kp (word w 0) t (slot_of k w) m mine ne e its))
 
-pub record Begun (k s : ℕ) (w w' : List ℕ) : Type 0 where
+pub record Begun (k : Key) (s : ℕ) (w w' : List ℕ) : Type 0 where
   pub passed : Passed w'
   pub size : word w' 0 ≡ word w 0
   pub all : SameOrders (held w') (map (started_in k s) (held w))
   pub labels : total (word w 0) (view w') ≡ total (word w 0) (view w)
 
-module _ (k : ℕ) (w : List ℕ) (s : ℕ) (kp : 1 ≤ k) (p : Passed w) (f : Found k w s) (free : marked_at w s ≡ false) where
+module _ (k : Key) (w : List ℕ) (s : ℕ) (kp : 1 ≤ k.number) (p : Passed w) (f : Found k w s) (free : marked_at w s ≡ false) where
   abbrev n : ℕ
   n = word w 0
 
@@ -64,8 +65,11 @@ module _ (k : ℕ) (w : List ℕ) (s : ℕ) (kp : 1 ≤ k) (p : Passed w) (f : F
   s-range : (1 ≤ s) × (s ≤ n)
   s-range = slots-range n f.inside
 
+  numbered : 1 ≤ number_at w s
+  numbered = omega (arith, kp, ap (λ (j : Key). j.number) f.key)
+
   there-o : Mem (order_at w s) (held_at w s)
-  there-o = subst (λ (l : List Order). Mem (order_at w s) l) (sym (held-some w s (omega (arith, f.number)))) (here refl)
+  there-o = subst (λ (l : List Order). Mem (order_at w s) l) (sym (held-some w s numbered)) (here refl)
 
   rdy : Ready n (order_at w s)
   rdy = p.sound.good.ready s (order_at w s) f.inside there-o
@@ -96,7 +100,13 @@ module _ (k : ℕ) (w : List ℕ) (s : ℕ) (kp : 1 ≤ k) (p : Passed w) (f : F
   count' = ap (λ (b : Bool). cond b (count_word_at w' s - started_mark) (count_word_at w' s)) marks ∙ omega (arith, now, same_count)
 
   number' : number_at w' s ≡ number_at w s
-  number' = else (base s) (omega arith)
+  number' = else (number_word s) (omega arith)
+
+  key' : key_at w' s ≡ key_at w s
+  key' = λ i. record { code = else (code_word s) (omega arith) i; number = number' i }
+
+  its : same_order k (order_at w s) ≡ true
+  its = is_true (same_order k (order_at w s)) (same-of k (order_at w s) f.key)
 
   row' : row_at w' s ≡ row_at w s
   row' = reads_same w w' (row_word s) most_choices (λ j lo hi. else j (omega arith))
@@ -109,16 +119,16 @@ module _ (k : ℕ) (w : List ℕ) (s : ℕ) (kp : 1 ≤ k) (p : Passed w) (f : F
       go (no ne) = label_same w w' t (agree t m ne)
 
   order' : order_at w' s ≡ started_in k s (order_at w s)
-  order' = λ i. record { number = number' i; list = take (count' i) (row' i); fixed = (ap (λ (b : Bool). cond b s 0) marks ∙ sym (ap (λ (b : Bool). cond b s (cond (marked_at w s) s 0)) (eq-eqb (number_at w s) k f.number))) i }
+  order' = λ i. record { key = key' i; list = take (count' i) (row' i); fixed = (ap (λ (b : Bool). cond b s 0) marks ∙ sym (ap (λ (b : Bool). cond b s (cond (marked_at w s) s 0)) its)) i }
 
   held' : (t : ℕ) → Mem t (slots n) → held_at w' t ≡ map (started_in k s) (held_at w t)
   held' t m = go (ℕ_discrete t s) (number_at w t) refl
     where
       at-s : held_at w' s ≡ map (started_in k s) (held_at w s)
-      at-s = held-some w' s (omega (arith, number', f.number)) ∙ ap (λ (o : Order). o ∷ []) order' ∙ sym (ap (map (started_in k s)) (held-some w s (omega (arith, f.number))))
+      at-s = held-some w' s (omega (arith, number', numbered)) ∙ ap (λ (o : Order). o ∷ []) order' ∙ sym (ap (map (started_in k s)) (held-some w s numbered))
 
-      stays : (ne : number_at w t ≢ k) → started_in k s (order_at w t) ≡ order_at w t
-      stays ne = λ i. record { number = number_at w t; list = list_at w t; fixed = ap (λ (b : Bool). cond b s (cond (marked_at w t) t 0)) (ne_eqb (number_at w t) k ne) i }
+      stays : (ne : key_at w t ≢ k) → started_in k s (order_at w t) ≡ order_at w t
+      stays ne = λ i. record { key = key_at w t; list = list_at w t; fixed = ap (λ (b : Bool). cond b s (cond (marked_at w t) t 0)) (is_false (same_order k (order_at w t)) (T_not (same_order k (order_at w t)) (other-of k (order_at w t) ne))) i }
 
       go : Dec (t ≡ s) → (j : ℕ) → number_at w t ≡ j → held_at w' t ≡ map (started_in k s) (held_at w t)
       go (yes e) j q = subst (λ (i : ℕ). held_at w' i ≡ map (started_in k s) (held_at w i)) (sym e) at-s
@@ -129,7 +139,7 @@ module _ (k : ℕ) (w : List ℕ) (s : ℕ) (kp : 1 ≤ k) (p : Passed w) (f : F
 
   open-s : (t : ℕ) → Mem t (open_slots (started_in k s (order_at w s))) → t ≡ s
   unfolding open_slots
-  open-s t m = go (subst (λ (b : Bool). Mem t (cond (eqb (cond b s (cond (marked_at w s) s 0)) 0) (list_at w s) (cond b s (cond (marked_at w s) s 0) ∷ []))) (eq-eqb (number_at w s) k f.number) m)
+  open-s t m = go (subst (λ (b : Bool). Mem t (cond (eqb (cond b s (cond (marked_at w s) s 0)) 0) (list_at w s) (cond b s (cond (marked_at w s) s 0) ∷ []))) its m)
     where
       one : Mem t (s ∷ []) → t ≡ s
       one (here e) = e
@@ -140,6 +150,7 @@ module _ (k : ℕ) (w : List ℕ) (s : ℕ) (kp : 1 ≤ k) (p : Passed w) (f : F
 
   ready' : Ready n (started_in k s (order_at w s))
   ready' = record {
+    coded = rdy.coded;
     named = rdy.named;
     few = rdy.few;
     rises = rdy.rises;
@@ -203,9 +214,9 @@ module _ (k : ℕ) (w : List ℕ) (s : ℕ) (kp : 1 ≤ k) (p : Passed w) (f : F
 
       at-s : Tidy w' s
       at-s = record {
-        free = λ e. absurd (omega (arith, number', f.number));
-        eight = λ h. omega (arith, count', old.eight (omega (arith, f.number)));
-        rest = λ h. subst (λ (l : List ℕ). T (zeros l)) (sym (λ i. drop (count' i) (row' i))) (old.rest (omega (arith, f.number)));
+        free = λ e. absurd (omega (arith, number', numbered));
+        eight = λ h. omega (arith, count', old.eight numbered);
+        rest = λ h. subst (λ (l : List ℕ). T (zeros l)) (sym (λ i. drop (count' i) (row' i))) (old.rest numbered);
       }
 
       go : Dec (t ≡ s) → Tidy w' t
@@ -243,14 +254,14 @@ module _ (k : ℕ) (w : List ℕ) (s : ℕ) (kp : 1 ≤ k) (p : Passed w) (f : F
       big = omega (arith, size', p.big);
       tally = omega (arith, else 1 (omega arith), p.tally, every (λ o. true), count_if-map (started_in k s) (λ o. true) (held w), count_if-all {A = Order} true tt (held w'), count_if-all {A = Order} true tt (held w));
       sound = subst (λ (i : ℕ). Sound i w') (sym size') (record { fits = omega (arith, length-set w (count_word s) (count_word_at w s + started_mark), p.sound.fits); tidy = tidy'; good = good' });
-      unique = λ j. omega (arith, every (same_number j), count_if-map (started_in k s) (same_number j) (held w), p.unique j);
+      unique = λ j. omega (arith, every (same_order j), count_if-map (started_in k s) (same_order j) (held w), p.unique j);
     };
     size = size';
     all = every;
     labels = sum_same (slots n) label';
   }
 
-pub mark : (k : ℕ) (w : List ℕ) → 1 ≤ k → T (is_held k w) → T (not (is_started k w)) → Passed w → Begun k (slot_of k w) w (marked k w)
+pub mark : (k : Key) (w : List ℕ) → 1 ≤ k.number → T (is_held k w) → T (not (is_started k w)) → Passed w → Begun k (slot_of k w) w (marked k w)
 mark k w kp has not_yet p = begun k w (slot_of k w) kp p (found k w kp p has) (is_false (marked_at w (slot_of k w)) (T_not (marked_at w (slot_of k w)) not_yet))
 
 -- ---- the mark, in the words of the request
@@ -278,7 +289,7 @@ count-words c = go (dec_lt 16 c)
         back (inr p) = absurd (omega (arith, p.0))
 
 -- "14, W or F on a started order": where a held order's slot is marked, that order is started, and where it is not, it is not
-pub started-as : (k : ℕ) (w : List ℕ) → T (is_held k w) → started (order_at w (slot_of k w)) ≡ is_started k w
+pub started-as : (k : Key) (w : List ℕ) → T (is_held k w) → started (order_at w (slot_of k w)) ≡ is_started k w
 started-as k w has = go (is_started k w)
   where
     s : ℕ

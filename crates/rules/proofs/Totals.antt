@@ -13,7 +13,7 @@ use Rattle.matching.proofs.Counting.{and_l, and_r}
 use Rattle.rules.specs.AnswerLines.{Reply}
 use Rattle.rules.specs.Calls.{Answer, Check, first}
 use Rattle.rules.specs.Ledger.{ok}
-use Rattle.rules.specs.InputLines.{letter_of, values, line_refusal, call_of}
+use Rattle.rules.specs.InputLines.{letter_of, values, line_refusal, line_key, call_of}
 use Rattle.rules.specs.Letters.{Letter, letter_s, letter_a, letter_w, letter_f, letter_p, letter_z, letter_x, byte_of}
 use Rattle.rules.specs.Runs.{Counts, counted, noted, State, Handled, Item, line, spoilt, unread, answered, closing, handle_line, handle, run, figures}
 use Rattle.rules.specs.Totals.{is_read, since_z, number_of, a_numbers, count_after, sum_after, Totalled, Closes, TotalsHold}
@@ -34,16 +34,16 @@ counted-keeps : (b : Bool) (t : Counts) (number : ℕ) → Adds t (counted b t) 
 counted-keeps true t number = record { orders = refl; numbers = refl }
 counted-keeps false t number = record { orders = refl; numbers = refl }
 
-read-adds : (x : Letter) (vs : List ℕ) (b : Bool) (t : Counts) → Adds t (noted x vs (counted b t)) (is_letter x letter_z) (is_letter x letter_a) (get_or vs 0 0)
-read-adds letter_s vs b t = counted-keeps b t (get_or vs 0 0)
+read-adds : (x : Letter) (vs : List ℕ) (b : Bool) (t : Counts) → Adds t (noted x vs (counted b t)) (is_letter x letter_z) (is_letter x letter_a) ((line_key vs).number)
+read-adds letter_s vs b t = counted-keeps b t ((line_key vs).number)
 read-adds letter_a vs b t =
-    let k = counted-keeps b t (get_or vs 0 0) in
-    record { orders = ap (λ (n : ℕ). (n + 1) % figures) k.orders; numbers = ap (λ (n : ℕ). (n + get_or vs 0 0) % figures) k.numbers }
-read-adds letter_w vs b t = counted-keeps b t (get_or vs 0 0)
-read-adds letter_f vs b t = counted-keeps b t (get_or vs 0 0)
-read-adds letter_p vs b t = counted-keeps b t (get_or vs 0 0)
+    let k = counted-keeps b t ((line_key vs).number) in
+    record { orders = ap (λ (n : ℕ). (n + 1) % figures) k.orders; numbers = ap (λ (n : ℕ). (n + (line_key vs).number) % figures) k.numbers }
+read-adds letter_w vs b t = counted-keeps b t ((line_key vs).number)
+read-adds letter_f vs b t = counted-keeps b t ((line_key vs).number)
+read-adds letter_p vs b t = counted-keeps b t ((line_key vs).number)
 read-adds letter_z vs b t = record { orders = refl; numbers = refl }
-read-adds letter_x vs b t = counted-keeps b t (get_or vs 0 0)
+read-adds letter_x vs b t = counted-keeps b t ((line_key vs).number)
 
 adds : (s : State) (i : Item) → Adds s.tally (handle s i).state.tally (is_read letter_z i) (is_read letter_a i) (number_of i)
 unfolding handle_line
@@ -54,7 +54,7 @@ adds s (line l) = go (eqb (line_refusal l) 0)
     r = read_answer l s
 
     go : (b : Bool) → Adds s.tally (cond b (answered (letter_of l) (values l) s r) (unread (line_refusal l) s)).state.tally
-        (b && is_letter (letter_of l) letter_z) (b && is_letter (letter_of l) letter_a) (get_or (values l) 0 0)
+        (b && is_letter (letter_of l) letter_z) (b && is_letter (letter_of l) letter_a) ((line_key (values l)).number)
     go true = read-adds (letter_of l) (values l) (ok r) s.tally
     go false = record { orders = refl; numbers = refl }
 
@@ -151,7 +151,7 @@ closes s is l held t =
     }
   where
     replied : ℕ → Reply
-    replied n = record { letter = byte_of letter_z; number = get_or (values l) 0 0; refusal = n; count = 0 }
+    replied n = record { letter = byte_of letter_z; code = 0; number = get_or (values l) 0 0; refusal = n; count = 0 }
 
     closing_tests : ℕ → ℕ → List Check
     closing_tests orders numbers = (15, not (eqb (get_or (values l) 0 0) orders && eqb (get_or (values l) 1 0) numbers)) ∷ []

@@ -1,11 +1,13 @@
 -- A run in blocks: a file is handed over in pieces, and of each piece as many whole lines are handled as the room for answers surely holds.
-use Rattle.std.specs.Prelude.{ℕ, ◌+◌, ◌-◌, List, [], ◌∷◌, ◌++◌, Bool, true, false, cond, length, drop, leb}
+use Rattle.std.specs.Prelude.{ℕ, ◌+◌, ◌-◌, ◌*◌, List, [], ◌∷◌, ◌++◌, Bool, true, false, cond, length, drop, leb}
+use Rattle.rules.specs.Layout.{most_slots}
 use Rattle.rules.specs.InputLines.{most_bytes}
+use Rattle.rules.specs.AnswerLines.{answer_line_bytes}
 use Rattle.rules.specs.Runs.{State, Out, Item, spoilt, framed, handle, lines_from, rest_from}
 
--- no answer with the lines that follow it is longer: that to P on 1,024 slots is 1 + 1,024 lines of 32 bytes
+-- no answer with the lines that follow it is longer: that to P on 1,024 slots is 1 + 1,024 lines of 42 bytes
 abbrev pub reply_room : ℕ
-reply_room = 32800
+reply_room = answer_line_bytes * (1 + most_slots)
 
 -- what is kept of an unended line that is too long already
 abbrev pub waiting : ℕ

@@ -3,7 +3,7 @@
 -- are and whatever they are answered. Proof: `totals-hold` in proofs/Totals.antt.
 use Rattle.std.specs.Prelude.{Bool, false, ◌&&◌, cond, List, [], ◌∷◌, ◌≡◌, ℕ, ◌%◌, T, eqb, length, get_or, sum}
 use Rattle.matching.specs.Lists.{any}
-use Rattle.rules.specs.InputLines.{letter_of, values, line_refusal}
+use Rattle.rules.specs.InputLines.{letter_of, values, line_refusal, line_key}
 use Rattle.rules.specs.Letters.{Letter, letter_a, letter_z, byte_of}
 use Rattle.rules.specs.Runs.{State, Item, line, spoilt, handle_line, run, figures}
 
@@ -18,7 +18,7 @@ since_z [] = []
 since_z (i ∷ is) = cond (any (is_read letter_z) (i ∷ is)) (since_z is) (i ∷ is)
 
 abbrev pub number_of : Item → ℕ
-number_of (line l) = get_or (values l) 0 0
+number_of (line l) = (line_key (values l)).number
 number_of spoilt = 0
 
 -- the order numbers of the A lines among them, one for each
@@ -44,7 +44,7 @@ z_refusal is vs = cond (eqb (get_or vs 0 0) (count_after is) && eqb (get_or vs 1
 
 -- A readable Z, l, after the lines `is`. That either answer starts the totals again is `Totalled` of these lines and l.
 pub record Closes (s : State) (is : List Item) (l : List ℕ) : Type 0 where
-  pub reply : (handle_line l (run s is).state).reply ≡ record { letter = byte_of letter_z; number = get_or (values l) 0 0; refusal = z_refusal is (values l); count = 0 }
+  pub reply : (handle_line l (run s is).state).reply ≡ record { letter = byte_of letter_z; code = 0; number = get_or (values l) 0 0; refusal = z_refusal is (values l); count = 0 }
   pub board : (handle_line l (run s is).state).state.board ≡ (run s is).state.board
   pub work : (handle_line l (run s is).state).state.work ≡ (run s is).state.work
 

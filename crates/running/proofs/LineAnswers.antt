@@ -18,7 +18,7 @@ use Rattle.writing.proofs.Puts.{puts-stored}
 use Rattle.running.specs.declared.Answering.{Answering}
 use Rattle.running.specs.BlockLoop.{Answered, Room, Same, state_at}
 
--- a line of more than 61 bytes gets refusal 1, read or not
+-- a line of more than 67 bytes gets refusal 1, read or not
 framed-same : (l : List ℕ) (s : State) → handle s (framed l) ≡ out_of (handle_line l s)
 unfolding handle_line line_refusal well_formed
 framed-same l s = either (leb (length l) most_bytes) (λ e. ap (λ (b : Bool). handle s (cond b (line l) spoilt)) e) (λ e. rw e)

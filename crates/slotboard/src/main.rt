@@ -9,16 +9,16 @@ ghost use Rattle.serving.specs.Serving.{Ran};
 use serving::serve;
 use std::io::{Read, Write};
 
-// Document 01 names the form, [0u16; 11266]: "A board needs 2 + 11n words, for 1,024 slots 11,266 words."
-const BOARD_WORDS: usize = 11266;
+// Document 01 names the form, an array of zeros whose length is written out. "2 + 12n board words" (P3) for 1,024 slots.
+const BOARD_WORDS: usize = 12290;
 
-// "Work words: 13n + 4." Written out as the board's are.
-const WORK_WORDS: usize = 13316;
+// "14n + 4 work words" (P3).
+const WORK_WORDS: usize = 14340;
 
 // So many bytes are read at once.
 const READ_BYTES: usize = 65536;
 
-// Each block checks the board once: the room holds seven of the longest answers, so that this is spread over many lines.
+// Each block checks the board once: the room holds six of the longest answers, so that this is spread over many lines.
 const ROOM_BYTES: usize = 262144;
 
 // The run from document 01's start state on.

@@ -4,6 +4,8 @@ use Rattle.rules.specs.Calls.{start-order}
 use Rattle.rules.specs.Known.{past_gate}
 use Rattle.answers.specs.Numbers.{said}
 use Rattle.answers.specs.declared.Rejection.{Rejection}
+use Rattle.words.specs.Carried.{key_of}
+use Rattle.words.specs.declared.Key.{Key}
 
-abbrev pub Starts : ℕ → List ℕ → Result ℕ Rejection → List ℕ → Type 0
-Starts number w r w' = (work : List ℕ) → said r w' work ≡ past_gate (start-order number) w work
+abbrev pub Starts : Key → List ℕ → Result ℕ Rejection → List ℕ → Type 0
+Starts key w r w' = (work : List ℕ) → said r w' work ≡ past_gate (start-order (key_of key)) w work

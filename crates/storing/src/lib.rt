@@ -18,7 +18,7 @@ ghost use Rattle.words.specs.Carried.{carried, carried_at};
 
 use std::array;
 use words::{
-    COUNT, HELD, LABEL, MOST_CHOICES, NO_SLOT, Order, SIZE, SLOT_WORDS, order_at, start_of,
+    COUNT, HELD, Key, LABEL, MOST_CHOICES, NO_SLOT, Order, SIZE, SLOT_WORDS, order_at, start_of,
 };
 
 // The row with 0 beyond the count. By a product: with a branch for each choice, or a `fill`, a turn of the search takes longer.
@@ -33,9 +33,11 @@ fn padded(order: &Order) -> [u16; MOST_CHOICES]
 fn record_of(order: &Order, label: u16) -> [u16; SLOT_WORDS]
     ensures { result ≡ slot_record (carried order.now) label }
 {
+    let Key { code, number } = order.key;
     let [a, b, c, d, e, f, g, h] = padded(order);
     [
-        order.number,
+        code,
+        number,
         label,
         order.count_word(),
         a,
@@ -65,6 +67,7 @@ fn put_record(board: &mut [u16], s: u16, contents: &[u16; SLOT_WORDS])
 // The order goes into slot s, which gets this label, and becomes what stood there: so the row of the one that is displaced is copied once, from the board to
 // where the next turn of the search reads it. Where all the words are there and the order is not started, as mostly in the search, what stands before the
 // row and the row are stored by themselves, and the count word is the count: a record copied whole, or a mark that may be or not be, makes a turn longer.
+// Three words and then the count, since four are stored as one number, and the label, which the next turn mostly reads, waits until that is put together.
 // (At most eight: the cast loses nothing.)
 pub fn displace(board: &mut [u16], s: u16, label: u16, order: &mut Order)
     ensures left { order.new ≡ carried_at board.old s }
@@ -73,12 +76,14 @@ pub fn displace(board: &mut [u16], s: u16, label: u16, order: &mut Order)
     let start = start_of(s);
     let end = start + SLOT_WORDS;
     if order.fixed == NO_SLOT && end <= board.len() {
-        let front = [order.number, label, order.list().len() as u16];
+        let Key { code, number } = order.key;
+        let front = [code, number, label];
+        let count = order.list().len() as u16;
         let choices = padded(order);
         *order = order_at(board, s);
-        let row = end - MOST_CHOICES;
-        board[start..row].copy_from_slice(&front);
-        board[row..end].copy_from_slice(&choices);
+        board[start..start + COUNT].copy_from_slice(&front);
+        board[start + COUNT] = count;
+        board[end - MOST_CHOICES..end].copy_from_slice(&choices);
     } else {
         let contents = record_of(order, label);
         *order = order_at(board, s);

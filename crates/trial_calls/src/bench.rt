@@ -138,7 +138,7 @@ impl Bench {
     pub fn slot(&mut self, asked: &[u16]) {
         if let Some((s, values)) = asked.split_first() {
             // Written out, and not the library's own.
-            let mut words = [0; 11];
+            let mut words = [0; 12];
             write(&mut words, 0, values);
             write(&mut self.wanted, slot_start(*s), &words);
         }

@@ -3,13 +3,13 @@
 //   lend B W                  B board words and W work words are lent; all words get their marks
 //   given I : V ..            the board words from index I on, also in the expected board
 //   zero N                    the expected board is a newly opened one of n slots
-//   slot S : NUMBER LABEL COUNT CHOICES ..    the expected words of slot S, eleven, those not named 0
+//   slot S : CODE NUMBER LABEL COUNT CHOICES ..    the expected words of slot S, twelve, those not named 0
 //   held K                    the expected count of held orders
 //   open N -> R C             a call, and the refusal (0: accepted) and the count that it must answer
-//   accept NUMBER COUNT : ROW .. -> R C : BLOCKED ..
-//   marked SLOT NUMBER COUNT : ROW .. -> R C : BLOCKED ..    the same, of an order that says it stays in that slot
-//   withdraw NUMBER -> R C
-//   fill NUMBER -> R C        the order is started
+//   accept CODE NUMBER COUNT : ROW .. -> R C : BLOCKED ..
+//   marked SLOT CODE NUMBER COUNT : ROW .. -> R C : BLOCKED ..    the same, of an order that says it stays in that slot
+//   withdraw CODE NUMBER -> R C
+//   fill CODE NUMBER -> R C   the order is started
 //   print -> R C
 //   check -> 1                whether the board passes the check
 //   blocked S -> L            how long the list is that the first S work words make

@@ -3,7 +3,7 @@ use crate::bench::{Bench, Expected};
 use board::Request;
 use std::{array, io};
 use trial_kit::{numbers, word_at};
-use words::Order;
+use words::{Key, Order};
 
 // How many numbers a line has room for before its arrow, and how many after it.
 const NUMBERS: usize = 64;
@@ -14,9 +14,17 @@ fn read<'a>(text: &[u8], found: &'a mut [u16]) -> &'a [u16] {
     &found[..count]
 }
 
+// Code and number.
+fn key(asked: &[u16]) -> Key {
+    Key {
+        code: word_at(asked, 0),
+        number: word_at(asked, 1),
+    }
+}
+
 fn order(asked: &[u16]) -> Order {
-    let row = array::from_fn(|j| word_at(asked, 2 + j));
-    Order::new(word_at(asked, 0), word_at(asked, 1), row)
+    let row = array::from_fn(|j| word_at(asked, 3 + j));
+    Order::new(key(asked), word_at(asked, 2), row)
 }
 
 // An order that comes with a slot in which it stays: a caller may send that, and it counts for nothing.
@@ -50,8 +58,8 @@ fn command(
         b'o' => bench.open(rt, first, &answer)?,
         b'a' => bench.call(rt, &Request::Accept(order(asked)), &answer)?,
         b'm' => bench.call(rt, &Request::Accept(marked(asked)), &answer)?,
-        b'w' => bench.call(rt, &Request::Withdraw(first), &answer)?,
-        b'f' => bench.call(rt, &Request::Start(first), &answer)?,
+        b'w' => bench.call(rt, &Request::Withdraw(key(asked)), &answer)?,
+        b'f' => bench.call(rt, &Request::Start(key(asked)), &answer)?,
         b'p' => bench.call(rt, &Request::Print, &answer)?,
         b'c' => bench.check(rt, word_at(expected, 0) == 1)?,
         b'b' => bench.list(rt, first, word_at(expected, 0))?,

@@ -13,7 +13,7 @@ abbrev pub HasZeros : ℕ → ℕ → List ℕ → Type 0
 HasZeros from to w = (i : ℕ) → from ≤ i → i < to → slice_index w i ≡ 0
 
 abbrev pub work_size : ℕ → ℕ
-work_size n = 13 * n + 4
+work_size n = 14 * n + 4
 
 -- zeros from index `shown` up to the size, and marks behind it
 abbrev pub IsCleared : List ℕ → ℕ → ℕ → Type 0

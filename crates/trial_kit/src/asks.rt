@@ -13,8 +13,8 @@ pub fn ask(request: &Request, board: &mut [u16], work: &mut [u16]) -> Answer
     match request {
         Request::Open(n) => open_board(board, *n),
         Request::Accept(order) => accept(board, work, *order),
-        Request::Withdraw(number) => withdraw(board, work, *number),
-        Request::Start(number) => start(board, work, *number),
+        Request::Withdraw(key) => withdraw(board, work, *key),
+        Request::Start(key) => start(board, work, *key),
         Request::Print => print(board, work),
     }
 }

@@ -39,7 +39,7 @@ pub fn has_zeros(words: &[u16], from: usize, to: usize) -> bool
 fn work_size(n: u16) -> usize
     ensures { result ≡ work_size n }
 {
-    13 * usize::from(n) + 4
+    14 * usize::from(n) + 4
 }
 
 // The work words of a board of n slots after a call that passed the checks up to 6: zeros behind the first `shown`, and what is beyond them as it was.

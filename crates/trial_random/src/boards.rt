@@ -1,23 +1,28 @@
 // What is on a board. Board and n stay two arguments: the board is the library's words, and n what the trial asked for, not what they say.
 use std::alloc::{AllocError, Global};
 use trial_kit::slot_at;
-use words::Order;
+use words::{Key, Order};
 
-// The orders on a board of n slots, in whatever slots, by number.
+// Where an order stands among others: by code, and then by number.
+pub fn rank(order: &Order) -> (u16, u16) {
+    (order.key.code, order.key.number)
+}
+
+// The orders on a board of n slots, in whatever slots, by code and number.
 pub fn orders_on(alloc: Global, board: &[u16], n: u16) -> Result<Vec<Order>, AllocError> {
     let mut orders: Vec<Order> = (1..=n)
         .filter_map(|s| slot_at(board, s).order)
         .collect(alloc)?;
-    orders.sort_by_key(|order| order.number)?;
+    orders.sort_by_key(rank)?;
     Ok(orders)
 }
 
-// The slot in which the order of this number sits.
-pub fn seat_of(board: &[u16], n: u16, number: u16) -> Option<u16> {
+// The slot in which the order of this key sits.
+pub fn seat_of(board: &[u16], n: u16, key: Key) -> Option<u16> {
     (1..=n).find(|s| {
         slot_at(board, *s)
             .order
-            .is_some_and(|order| order.number == number)
+            .is_some_and(|order| order.key == key)
     })
 }
 

@@ -24,6 +24,21 @@ pub struct Counts {
     back: u32,
     // Refused orders with a started one in the way: were it not started, there would be more slots, or a free one.
     in_the_way: u32,
+    // Calls whose order has the number of another customer's on the board.
+    accepted_beside: u32,
+    withdrawn_beside: u32,
+    started_beside: u32,
+    not_held_beside: u32,
+}
+
+// One of the orders has the number that the call names, and another code.
+fn is_beside(request: &Request, orders: &[Order]) -> bool {
+    let key = match request {
+        Request::Accept(order) => order.key,
+        Request::Withdraw(key) | Request::Start(key) => *key,
+        Request::Open(_) | Request::Print => return false,
+    };
+    orders.iter().any(|order| order.key.number == key.number && order.key.code != key.code)
 }
 
 // Its label went up: of a started order it is n once it was pushed out and is back.
@@ -52,6 +67,21 @@ impl Counts {
         }
     }
 
+    // What the call shows of orders that have one number.
+    fn count_beside(&mut self, plan: &Plan) {
+        if !is_beside(&plan.request, &plan.orders) {
+            return;
+        }
+        let kind = match &plan.outcome {
+            Outcome::Accepted => &mut self.accepted_beside,
+            Outcome::Withdrawn => &mut self.withdrawn_beside,
+            Outcome::Started(_) => &mut self.started_beside,
+            Outcome::NotHeld => &mut self.not_held_beside,
+            _ => return,
+        };
+        *kind = kind.saturating_add(1);
+    }
+
     pub fn count(&mut self, plan: &Plan, left: &Left<'_>, answer: Answer) {
         let kind = match (&plan.outcome, &plan.request) {
             (Outcome::Printed, _) => &mut self.prints,
@@ -68,6 +98,7 @@ impl Counts {
         };
         *kind = kind.saturating_add(1);
         self.count_started(plan, left);
+        self.count_beside(plan);
     }
 }
 
@@ -86,6 +117,10 @@ impl fmt::Display for Counts {
             started_already,
             back,
             in_the_way,
+            accepted_beside,
+            withdrawn_beside,
+            started_beside,
+            not_held_beside,
         } = *self;
         write!(
             f,
@@ -97,7 +132,15 @@ impl fmt::Display for Counts {
         )?;
         write!(
             f,
-            "accepted with a started order pushed out and back, blocked with one in the way: {back} {in_the_way}"
+            "accepted with a started order pushed out and back, blocked with one in the way: {back} {in_the_way}; "
+        )?;
+        write!(
+            f,
+            "accepted, withdrawn, started, not held, while another customer's order has the number: "
+        )?;
+        write!(
+            f,
+            "{accepted_beside} {withdrawn_beside} {started_beside} {not_held_beside}"
         )
     }
 }

@@ -37,7 +37,7 @@ pub fn is_answered(outcome: &Outcome, n: u16, moves: u64, answer: Answer) -> boo
 
 // The board is as it was, but that the order in slot s is started: its count word alone is another.
 fn is_started_in(board: &[u16], before: &[u16], s: u16) -> bool {
-    let count_word = slot_start(s) + 2;
+    let count_word = slot_start(s) + 3;
     board.iter().zip(before).enumerate().all(|(i, (new, old))| {
         let more = if i == count_word { STARTED } else { 0 };
         old.checked_add(more) == Some(*new)
@@ -51,7 +51,7 @@ pub struct Left<'a> {
     pub before: &'a [u16],
     pub board: &'a [u16],
     pub work: &'a [u16],
-    // Those on the board, by number.
+    // Those on the board, by code and number.
     pub orders: &'a [Order],
 }
 

@@ -30,7 +30,7 @@ fn is_opened(board: &[u16], n: u16, answer: Answer) -> bool {
 // Four times the board words of n slots, and some more; no size is above 1,024, and so it fits. Written out, and not the library's own.
 // A draw below this is seldom a slot; a draw below a draw below this is less than n in about one call of ten.
 fn rare_range(n: u16) -> u16 {
-    4 * (11 * n.min(1024) + 9)
+    4 * (12 * n.min(1024) + 9)
 }
 
 fn is_started(board: &[u16], s: u16) -> bool {
@@ -41,7 +41,7 @@ fn is_started(board: &[u16], s: u16) -> bool {
 
 // The label of slot s is at least so high.
 fn raise(board: &mut [u16], s: u16, least: u16) {
-    if let Some(label) = board.get_mut(slot_start(s) + 1) {
+    if let Some(label) = board.get_mut(slot_start(s) + 2) {
         *label = least.max(*label);
     }
 }
@@ -49,7 +49,7 @@ fn raise(board: &mut [u16], s: u16, least: u16) {
 // Labels are at most so high. Where the board passes the check it still does.
 fn lower(board: &mut [u16], n: u16, most: u16) {
     for s in 1..=n {
-        if let Some(label) = board.get_mut(slot_start(s) + 1) {
+        if let Some(label) = board.get_mut(slot_start(s) + 2) {
             *label = most.min(*label);
         }
     }

@@ -8,14 +8,14 @@ use answers::Answer;
 use checking::named_slot;
 use relabelling::relabel_all;
 use storing::{put_free, put_held};
-use words::{held_of, size_of};
+use words::{Key, held_of, size_of};
 
 // The order goes, or the withdrawal is turned down. No work word is looked at.
 #[tactic(auto, using(crate::proofs::Gate::takes))]
-pub fn take_out(board: &mut [u16], number: u16) -> Answer
-    ensures { TakesOut number board.old result board.new }
+pub fn take_out(board: &mut [u16], key: Key) -> Answer
+    ensures { TakesOut key board.old result board.new }
 {
-    let slot = named_slot(board, number)?;
+    let slot = named_slot(board, key)?;
     let n = size_of(board);
     let held = held_of(board);
     put_free(board, slot);

@@ -1,20 +1,19 @@
 -- K lines and L lines in a loop: those of the slots that are left are still to be stored. An order's line.
 use Rattle.std.proofs.Common.{◌≡◌, ℕ, suc, ◌+◌, ◌-◌, ◌≤◌, ◌<◌, min, List, [], ◌∷◌, ◌++◌, length, take, drop, ap, ap₂, ◌∙◌, subst, arith}
 use Rattle.std.proofs.lemmas.Grind.{common_steps}
-use Rattle.rules.specs.AnswerLines.{printed, slots_per_line, blocked_lines, slots_from}
+use Rattle.rules.specs.AnswerLines.{answer_bytes, printed, answer_line_bytes, slots_per_line, blocked_lines, slots_from}
 use Rattle.rules.specs.Letters.{byte_k, byte_l}
-use Rattle.rules.specs.Layout.{number_at, label_at}
+use Rattle.rules.specs.Layout.{code_at, number_at, label_at}
 use Rattle.rules.specs.InputLines.{column_bytes, order_line}
 use Rattle.rules.specs.Text.{line_feed, column, columns}
 use Rattle.rules.proofs.TextLaws.{length-text_line, length-blocked_lines, blocked-none, blocked-more}
 use Rattle.rules.proofs.ReplyLengths.{length-slots}
 use Rattle.writing.specs.declared.text.Cursor.{Cursor}
-use Rattle.writing.specs.Writing.{three_bytes}
 use Rattle.writing.specs.Storing.{Room, Stores, slot_line}
 use Rattle.writing.proofs.Texts.{Leaves, leaves-none, leaves-room, leaves-more, stores-append, feed-room, line-stored}
 
-pub length_three : (letter a b c : ℕ) → length (printed letter (a ∷ b ∷ c ∷ [])) ≡ three_bytes
-length_three letter a b c = length-text_line 10 letter (a ∷ b ∷ c ∷ [])
+pub length_four : (letter a b c d : ℕ) → length (printed letter (a ∷ b ∷ c ∷ d ∷ [])) ≡ answer_line_bytes
+length_four letter a b c d = length-text_line answer_bytes letter (a ∷ b ∷ c ∷ d ∷ [])
 
 -- ---- K lines
 
@@ -53,9 +52,9 @@ module _ (start : Cursor) (whole : List ℕ) (here : Cursor) (board : List ℕ) 
     unfolding slots_from
     next_slot = let more : n + 1 - s ≡ suc (n + 1 - (s + 1)) = omega arith in ap (λ (k : ℕ). slots_from board k s) more
 
-    pub l-room : Room start (length whole) → Room here three_bytes
+    pub l-room : Room start (length whole) → Room here answer_line_bytes
     l-room room =
-        omega (arith, leaves-room _ _ _ _ l (slot_line board s) (slots_from board (n + 1 - (s + 1)) (s + 1)) next_slot room, length_three byte_l s (number_at board s) (label_at board s))
+        omega (arith, leaves-room _ _ _ _ l (slot_line board s) (slots_from board (n + 1 - (s + 1)) (s + 1)) next_slot room, length_four byte_l s (code_at board s) (number_at board s) (label_at board s))
 
     pub l-more : (next : Cursor) → Stores here (slot_line board s) next → Leaves start whole next (slots_from board (n + 1 - (s + 1)) (s + 1))
     l-more = leaves-more _ _ _ _ l (slot_line board s) (slots_from board (n + 1 - (s + 1)) (s + 1)) next_slot
@@ -68,15 +67,20 @@ module _ (start : Cursor) (whole : List ℕ) (here : Cursor) (board : List ℕ) 
 
 -- ---- an order's line
 
-module _ (a b c d : Cursor) (n number : ℕ) (list l : List ℕ) (same : n ≡ number) (own : l ≡ list) (p : Stores a (65 ∷ []) b) (q : Stores b (column column_bytes n) c) (r : Stores c (columns column_bytes l) d) where
-  order_columns : Stores b (columns column_bytes (number ∷ list)) d
-  order_columns = subst (λ (x : List ℕ). Stores b (columns column_bytes x) d) (ap₂ (λ (x : ℕ) (y : List ℕ). x ∷ y) same own) (stores-append b c d (column column_bytes n) (columns column_bytes l) q r)
+module _ (a b c d e : Cursor) (m n code number : ℕ) (list l : List ℕ) (same-code : m ≡ code) (same : n ≡ number) (own : l ≡ list) (p : Stores a (65 ∷ []) b) (q : Stores b (column column_bytes m) c) (r : Stores c (column column_bytes n) d) (s : Stores d (columns column_bytes l) e) where
+  abbrev numbers : List ℕ
+  numbers = code ∷ number ∷ list
 
-  pub order-room : Room a (length (order_line number list)) → Room d 1
-  order-room = feed-room a b 65 p column_bytes (number ∷ list) d order_columns
+  order_columns : Stores b (columns column_bytes numbers) e
+  order_columns =
+      subst (λ (x : List ℕ). Stores b (columns column_bytes x) e) (λ i. same-code i ∷ same i ∷ own i)
+      (stores-append b c e (column column_bytes m) (columns column_bytes (n ∷ l)) q (stores-append c d e (column column_bytes n) (columns column_bytes l) r s))
 
-  pub order-stored : (e : Cursor) → Stores d (line_feed ∷ []) e → Stores a (order_line number list) e
-  order-stored = line-stored a b 65 p column_bytes (number ∷ list) d order_columns
+  pub order-room : Room a (length (order_line (record { code = code; number = number }) list)) → Room e 1
+  order-room = feed-room a b 65 p column_bytes numbers e order_columns
+
+  pub order-stored : (f : Cursor) → Stores e (line_feed ∷ []) f → Stores a (order_line (record { code = code; number = number }) list) f
+  order-stored = line-stored a b 65 p column_bytes numbers e order_columns
 
 -- ---- how many bytes they have
 

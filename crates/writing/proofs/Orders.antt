@@ -3,6 +3,7 @@ use Rattle.std.proofs.Common.{◌≡◌, ℕ, ◌≤◌, ◌<◌, ltb, List, [],
 use Rattle.std.proofs.lemmas.Bool.Decides.{nat_tests}
 use Rattle.std.proofs.lemmas.List.Edits.{sets}
 use Rattle.std.proofs.Math.Seq.{length-take-le}
+use Rattle.matching.specs.Orders.{Key}
 use Rattle.rules.specs.Layout.{most_slots, most_choices}
 use Rattle.rules.specs.Calls.{first, order_checks}
 use Rattle.rules.specs.InputLines.{column_bytes, order_line, order_bytes, written}
@@ -14,8 +15,11 @@ use Rattle.answers.specs.declared.Refusal.{Refusal}
 use Rattle.answers.proofs.NumberLaws.{code-some}
 use Rattle.orders.proofs.Verdicts.{faulty, fine, fine-count}
 
-module _ (k c : ℕ) (row buffer : List ℕ) (eight : length row ≡ most_choices) where
-  -- ---- the checks 7 to 10, then the room
+module _ (customer number c : ℕ) (row buffer : List ℕ) (eight : length row ≡ most_choices) where
+  abbrev k : Key
+  k = record { code = customer; number = number }
+
+  -- ---- the checks 16 and 7 to 10, then the room
 
   abbrev judged : ℕ
   judged = first (order_checks most_slots k c row [])
@@ -32,7 +36,7 @@ module _ (k c : ℕ) (row buffer : List ℕ) (eight : length row ≡ most_choice
     pub length-line : length (order_line k (take c row)) ≡ order_bytes c
     length-line =
         let few = (fine-count most_slots k c row e).1 in
-        omega (arith, length-text_line column_bytes (byte_of letter_a) (k ∷ take c row), length-take-le c row (omega arith))
+        omega (arith, length-text_line column_bytes (byte_of letter_a) (k.code ∷ k.number ∷ take c row), length-take-le c row (omega arith))
 
     pub wrote : order_bytes c ≤ length buffer → written k c row buffer ≡ record { refusal = 0; count = order_bytes c; buffer = sets buffer 0 (order_line k (take c row)) }
     unfolding written

@@ -3,7 +3,7 @@
 use Rattle.std.specs.Prelude.{◌≡◌, List, [], ◌∷◌, ℕ, ◌+◌, ◌≤◌, length}
 use Rattle.std.proofs.lemmas.List.Edits.{sets}
 use Rattle.rules.specs.Letters.{byte_l}
-use Rattle.rules.specs.Layout.{number_at, label_at}
+use Rattle.rules.specs.Layout.{code_at, number_at, label_at}
 use Rattle.rules.specs.AnswerLines.{printed, blocked_lines, slot_lines}
 use Rattle.answers.specs.declared.Reply.{Reply}
 use Rattle.writing.specs.Writing.{Puts}
@@ -28,11 +28,11 @@ pub record StoresAll (before : Cursor) (t : List ℕ) (after : Cursor) : Type 0 
 
 -- the L line of slot s
 abbrev pub slot_line : List ℕ → ℕ → List ℕ
-slot_line board s = printed byte_l (s ∷ number_at board s ∷ label_at board s ∷ [])
+slot_line board s = printed byte_l (s ∷ code_at board s ∷ number_at board s ∷ label_at board s ∷ [])
 
 -- the answer line of a reply
 abbrev pub answer_line : Reply → List ℕ
-answer_line reply = printed reply.letter (reply.number ∷ reply.refusal ∷ reply.count ∷ [])
+answer_line reply = printed reply.letter (reply.code ∷ reply.number ∷ reply.refusal ∷ reply.count ∷ [])
 
 -- the lines that follow an answer line
 abbrev pub lines_of : Following → List ℕ

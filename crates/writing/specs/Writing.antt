@@ -15,6 +15,6 @@ pub record Puts (out : List ℕ) (at : ℕ) (t : List ℕ) (r : ℕ) (out' : Lis
   pub end : r ≡ end_of out at t
   pub text : out' ≡ put_text out at t
 
--- the bytes of a printed line of three columns: an answer, an L line, the N line
-abbrev pub three_bytes : ℕ
-three_bytes = answer_bytes * 3 + 2
+-- the bytes of the N line, which has three columns
+abbrev pub tally_line_bytes : ℕ
+tally_line_bytes = answer_bytes * 3 + 2

@@ -7,6 +7,7 @@ ghost use Rattle.std.specs.Prelude.{◌≡◌, ◌++◌, ◌-◌, ◌^◌, min, 
 ghost use Rattle.rules.specs.InputLines.{written};
 ghost use Rattle.rules.specs.AnswerLines.{blocked_lines, slot_lines, following, reply_text};
 ghost use Rattle.answers.specs.Values.{reply_of};
+ghost use Rattle.words.specs.Carried.{key_of};
 ghost use Rattle.writing.specs.Writing.{Puts};
 ghost use Rattle.writing.specs.Closing.{Closes};
 ghost use Rattle.writing.specs.Wrote.{wrote_of};
@@ -15,11 +16,11 @@ ghost use Rattle.writing.specs.Storing.{Room, Stores, StoresAll, answer_line, li
 use answers::{BLOCKED, Refusal, Reply, Tally, blocked};
 use framing::COLUMN_BYTES;
 use orders::judge;
-use text::{ANSWER_WIDTH, Cursor, FRAME, PER_LINE, THREE_BYTES};
+use text::{ANSWER_LINE_BYTES, ANSWER_WIDTH, Cursor, FRAME, PER_LINE, TALLY_LINE_BYTES};
 use words::{MOST_SLOTS, Order, size_of};
 
-// The line of an order without slots: its letter, its number, its line feed.
-const NUMBER_BYTES: usize = FRAME + COLUMN_BYTES;
+// The line of an order without slots: its letter, its code, its number, its line feed.
+const KEY_BYTES: usize = FRAME + 2 * COLUMN_BYTES;
 
 // The lines that follow an answer line: K lines of these slots, L lines of this board, or none.
 #[derive(Clone, Copy)]
@@ -54,7 +55,7 @@ impl<'a> Following<'a> {
                 let frames = FRAME * n.div_ceil(PER_LINE);
                 ANSWER_WIDTH.saturating_mul(n).saturating_add(frames)
             }
-            Following::Plan(board) => THREE_BYTES * usize::from(size_of(board)),
+            Following::Plan(board) => ANSWER_LINE_BYTES * usize::from(size_of(board)),
             Following::Nothing => 0,
         }
     }
@@ -87,10 +88,11 @@ impl Cursor<'_> {
     fn reply(&mut self, reply: Reply, lines: Following<'_>)
         ensures { StoresAll self.old (answer_line reply ++ lines_of lines.entry) self.new }
     {
-        if self.fits(lines.size().saturating_add(THREE_BYTES)) {
+        if self.fits(lines.size().saturating_add(ANSWER_LINE_BYTES)) {
+            let code = u64::from(reply.code);
             let number = u64::from(reply.number);
             let refusal = u64::from(reply.refusal);
-            self.three_columns(reply.letter, number, refusal, reply.count);
+            self.four_columns(reply.letter, code, number, refusal, reply.count);
             lines.put(self);
         }
     }
@@ -127,18 +129,13 @@ pub fn put_reply(reply: Reply, board: &[u16], work: &[u16], out: &mut [u8], at: 
 }
 
 // The N line, at the start of the room.
-#[tactic(auto, using(crate::proofs::Closing::closes), unfolding(rules::specs::Runs::tally_line))]
+#[tactic(auto, using(crate::proofs::Closing::closes))]
 pub fn close(t: Tally, out: &mut [u8]) -> usize
     ensures { Closes t out.old result out.new }
 {
     let mut cursor = Cursor { out, at: 0 };
-    if cursor.fits(THREE_BYTES) {
-        cursor.three_columns(
-            b'N',
-            u64::from(t.lines),
-            u64::from(t.accepted),
-            u64::from(t.refused),
-        );
+    if cursor.fits(TALLY_LINE_BYTES) {
+        cursor.tally_line(t);
     }
     cursor.at
 }
@@ -147,11 +144,11 @@ pub fn close(t: Tally, out: &mut [u8]) -> usize
 #[tactic(auto, using(crate::proofs::Orders::orders))]
 pub fn write_order(buffer: &mut [u8], order: Order) -> Result<usize, Refusal>
     ensures { wrote_of result buffer.new
-        ≡ written order.number order.count order.row buffer.old }
+        ≡ written (key_of order.key) order.count order.row buffer.old }
 {
     judge(MOST_SLOTS, &order)?;
     let mut cursor = Cursor { out: buffer, at: 0 };
-    if !cursor.fits(NUMBER_BYTES + COLUMN_BYTES * usize::from(order.count)) {
+    if !cursor.fits(KEY_BYTES + COLUMN_BYTES * usize::from(order.count)) {
         return Err(Refusal::Short);
     }
     cursor.order_line(&order);

@@ -3,13 +3,16 @@ ghost use Rattle.std.specs.Prelude.{◌≡◌, [], ◌∷◌, ◌+◌, ◌≤◌
 ghost use Rattle.rules.specs.Text.{digit, glyph, column, columns};
 ghost use Rattle.rules.specs.Letters.{byte_k};
 ghost use Rattle.rules.specs.InputLines.{order_line};
-ghost use Rattle.rules.specs.AnswerLines.{printed, blocked_lines, slot_lines};
-ghost use Rattle.words.specs.Carried.{carried};
-ghost use Rattle.writing.specs.Writing.{three_bytes};
+ghost use Rattle.rules.specs.AnswerLines.{printed, answer_line_bytes, blocked_lines, slot_lines};
+ghost use Rattle.rules.specs.Runs.{tally_line};
+ghost use Rattle.answers.specs.Values.{counts_of};
+ghost use Rattle.words.specs.Carried.{key_of, carried};
+ghost use Rattle.writing.specs.Writing.{tally_line_bytes};
 ghost use Rattle.writing.specs.Storing.{Room, Stores, slot_line};
 
+use answers::Tally;
 use framing::COLUMN_BYTES;
-use words::{Order, label_at, number_at, size_of};
+use words::{Order, code_at, label_at, number_at, size_of};
 
 // "columns ten wide": in all that is printed.
 pub(crate) const ANSWER_WIDTH: usize = 10;
@@ -17,8 +20,11 @@ pub(crate) const ANSWER_WIDTH: usize = 10;
 // A line's letter and line feed.
 pub(crate) const FRAME: usize = 2;
 
-// A line of three columns: an answer, an L line, the N line.
-pub(crate) const THREE_BYTES: usize = FRAME + 3 * ANSWER_WIDTH;
+// A line of four columns: an answer or an L line.
+pub(crate) const ANSWER_LINE_BYTES: usize = FRAME + 4 * ANSWER_WIDTH;
+
+// The N line: three columns.
+pub(crate) const TALLY_LINE_BYTES: usize = FRAME + 3 * ANSWER_WIDTH;
 
 // So many numbers a line that is printed has at most.
 pub(crate) const PER_LINE: usize = 8;
@@ -100,17 +106,31 @@ impl Cursor<'_> {
         }
     }
 
-    // A line of three columns: most of what is printed. Without a loop and inlined, for then the cursor stays in registers.
+    // A line of four columns: most of what is printed. Without a loop and inlined, for then the cursor stays in registers.
     #[inline(always)]
     #[tactic(auto, using(crate::proofs::Texts::line), unfolding(rules::specs::Text::text_line))]
-    pub(crate) fn three_columns(&mut self, letter: u8, a: u64, b: u64, c: u64)
-        requires { Room self.old three_bytes }
-        ensures { Stores self.old (printed letter (a ∷ b ∷ c ∷ [])) self.new }
+    pub(crate) fn four_columns(&mut self, letter: u8, a: u64, b: u64, c: u64, d: u64)
+        requires { Room self.old answer_line_bytes }
+        ensures { Stores self.old (printed letter (a ∷ b ∷ c ∷ d ∷ [])) self.new }
     {
         self.byte(letter);
         self.column(ANSWER_WIDTH, a);
         self.column(ANSWER_WIDTH, b);
         self.column(ANSWER_WIDTH, c);
+        self.column(ANSWER_WIDTH, d);
+        self.byte(b'\n');
+    }
+
+    // The N line.
+    #[tactic(auto, using(crate::proofs::Texts::line), unfolding(rules::specs::Text::text_line, rules::specs::Runs::tally_line))]
+    pub(crate) fn tally_line(&mut self, t: Tally)
+        requires { Room self.old tally_line_bytes }
+        ensures { Stores self.old (tally_line (counts_of t)) self.new }
+    {
+        self.byte(b'N');
+        self.column(ANSWER_WIDTH, u64::from(t.lines));
+        self.column(ANSWER_WIDTH, u64::from(t.accepted));
+        self.column(ANSWER_WIDTH, u64::from(t.refused));
         self.byte(b'\n');
     }
 
@@ -137,12 +157,13 @@ impl Cursor<'_> {
 
     // The L line of slot s.
     fn slot_line(&mut self, board: &[u16], s: u16)
-        requires { Room self.old three_bytes }
+        requires { Room self.old answer_line_bytes }
         ensures { Stores self.old (slot_line board.now s) self.new }
     {
-        let number = number_at(board, s);
-        let label = label_at(board, s);
-        self.three_columns(b'L', u64::from(s), u64::from(number), u64::from(label));
+        let code = u64::from(code_at(board, s));
+        let number = u64::from(number_at(board, s));
+        let label = u64::from(label_at(board, s));
+        self.four_columns(b'L', u64::from(s), code, number, label);
     }
 
     // The L lines: one per slot.
@@ -155,14 +176,15 @@ impl Cursor<'_> {
         }
     }
 
-    // The A line of an order, 8 bytes and 6 more per slot.
+    // The A line of an order, 14 bytes and 6 more per slot.
     #[tactic(auto, using(crate::proofs::Texts::line), unfolding(rules::specs::Text::text_line))]
     pub(crate) fn order_line(&mut self, order: &Order)
-        requires { Room self.old (length (order_line order.now.number (carried order.now).list)) }
-        ensures { Stores self.old (order_line order.now.number (carried order.now).list) self.new }
+        requires { Room self.old (length (order_line (key_of order.now.key) (carried order.now).list)) }
+        ensures { Stores self.old (order_line (key_of order.now.key) (carried order.now).list) self.new }
     {
         self.byte(b'A');
-        self.column(COLUMN_BYTES, u64::from(order.number));
+        self.column(COLUMN_BYTES, u64::from(order.key.code));
+        self.column(COLUMN_BYTES, u64::from(order.key.number));
         self.columns(COLUMN_BYTES, order.list());
         self.byte(b'\n');
     }

@@ -1,4 +1,4 @@
--- The worked runs with Z, by computation of the definitions.
+-- The worked runs, by computation of the definitions.
 use lib.Dec.{T}
 use Rattle.matching.specs.Lists.{all}
 use Rattle.matching.specs.Orders.{open_slots}
@@ -9,8 +9,8 @@ use Rattle.rules.specs.InputLines.{is_column, column_value, line_refusal, call_o
 use Rattle.rules.specs.Letters.{letter_named}
 use Rattle.rules.specs.AnswerLines.{reply_text}
 use Rattle.rules.specs.Runs.{handle_line, file_text}
-use Rattle.rules.specs.ClosingRuns.{run_holds, closing_runs}
+use Rattle.rules.specs.WorkedRuns.{run_holds, worked_runs}
 
-pub closing-runs-hold : T (all run_holds closing_runs)
+pub worked-runs-hold : T (all run_holds worked_runs)
 unfolding run_holds file_text handle_line step passes open_slots text_line letter_named line_refusal call_of is_column column_value reply_text
-closing-runs-hold = tt
+worked-runs-hold = tt
