@@ -95,8 +95,8 @@ fn asked_line(
     ensures { Asks line.now known.old (state_of board.old work.old tally.old) result known.new tally.new board.new work.new }
 {
     let answer = answer_to(line, board, work, tally, known);
-    let number = shown_number(line, answer, board);
     let code = shown_code(line);
+    let number = shown_number(line, answer, board);
     note_line(line, tally);
     replied(line.kind.letter(), code, number, answer, tally)
 }

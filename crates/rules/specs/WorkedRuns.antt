@@ -157,6 +157,7 @@ two_printers = record {
       ∷ F-of 65535 0 16
       ∷ A-of 999 100 (1 ∷ []) 0 1
       ∷ with (with (P 2 2) byte_l (1 ∷ 999 ∷ 100 ∷ 2 ∷ [])) byte_l (2 ∷ 1 ∷ 100 ∷ 1 ∷ [])
+      ∷ W-of 999 100 0
       -- a line with too few columns, and one with too many, of 73 bytes
       ∷ spoilt_at letter_a (1 ∷ []) 1
       ∷ spoilt_at letter_w (100 ∷ []) 1
@@ -167,7 +168,7 @@ two_printers = record {
       -- the sum is of the numbers, whatever the codes: 100 seven times, and 101
       ∷ Z 8 801 0
       ∷ [];
-  last = printed byte_n (24 ∷ 10 ∷ 14 ∷ []);
+  last = printed byte_n (25 ∷ 11 ∷ 14 ∷ []);
 }
 
 abbrev pub worked_runs : List Run

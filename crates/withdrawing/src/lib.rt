@@ -10,7 +10,8 @@ use relabelling::relabel_all;
 use storing::{put_free, put_held};
 use words::{Key, held_of, size_of};
 
-// The order goes, or the withdrawal is turned down. No work word is looked at.
+// The order goes, or the withdrawal is turned down. No work word is looked at. A function of its own: with its loops beside it the search takes 8 in 100 longer.
+#[inline(never)]
 #[tactic(auto, using(crate::proofs::Gate::takes))]
 pub fn take_out(board: &mut [u16], key: Key) -> Answer
     ensures { TakesOut key board.old result board.new }

@@ -1,11 +1,12 @@
 -- Text stored from a cursor on, one piece after the other.
-use Rattle.std.proofs.Common.{◌≡◌, ℕ, ◌+◌, ◌≤◌, ◌<◌, List, [], ◌∷◌, ◌++◌, length, take, drop, get_or, refl, sym, ap, ◌∙◌, arith, append_assoc, append-nil, length-append}
+use Rattle.std.proofs.Common.{◌≡◌, ℕ, zero, suc, ◌+◌, ◌-◌, ◌≤◌, ◌<◌, List, [], ◌∷◌, ◌++◌, length, take, drop, replicate, get_or, refl, sym, ap, ◌∙◌, arith, append_assoc, append-nil, length-append, length-take-le, length-drop}
+use borrow.Rule.Slice.PartMut.{put_mid, mid_of}
 use Rattle.std.proofs.lemmas.Grind.{common_steps}
-use Rattle.std.proofs.lemmas.List.{drop_more}
+use Rattle.std.proofs.lemmas.List.{drop_more, length-replicate}
 use Rattle.std.proofs.lemmas.List.Edits.{sets, sets-eq}
 use Rattle.std.proofs.Math.Seq.{length-sets}
-use Rattle.rules.specs.Text.{line_feed, column, columns, text_line}
-use Rattle.rules.proofs.TextLaws.{length-column}
+use Rattle.rules.specs.Text.{space, line_feed, column, columns, text_line}
+use Rattle.rules.proofs.TextLaws.{length-column, column-spaced}
 use Rattle.rules.proofs.WordLaws.{sets-append}
 use Rattle.writing.specs.declared.text.Cursor.{Cursor}
 use Rattle.writing.specs.Storing.{Room, Stores}
@@ -21,6 +22,29 @@ sets-next l i n a b e = grind (arith, sets-append)
 -- a text in the place of as many bytes
 pub in_place : (out : List ℕ) (at k : ℕ) (t : List ℕ) → length t ≡ k → at + k ≤ length out → take at out ++ (t ++ drop k (drop at out)) ≡ sets out at t
 in_place out at k t e h = grind (arith, common_steps, sets-eq t out at (omega arith))
+
+-- a number of at most five digits in n places: spaces, and its last five places
+pub spaced : (n v : ℕ) → v < 100000 → replicate (n - 5) space ++ column (n - (n - 5)) v ≡ column n v
+spaced n v h = go (n - 5) refl
+  where
+    go : (j : ℕ) → n - 5 ≡ j → replicate j space ++ column (n - j) v ≡ column n v
+    go zero e = let all : n - 0 ≡ n = omega arith in ap (λ (k : ℕ). column k v) all
+    go (suc j) e =
+        let five : n - suc j ≡ 5 = omega arith in
+        let whole : suc j + 5 ≡ n = omega arith in
+        ap (λ (k : ℕ). replicate (suc j) space ++ column k v) five ∙ sym (column-spaced (suc j) 4 v h) ∙ ap (λ (k : ℕ). column k v) whole
+
+-- the places before the last five became spaces, and the last five v's own
+module _ (places front back : List ℕ) (n v : ℕ) (five : n ≡ length places - 5) (h : v < 100000) (f : front ≡ replicate (length (take n places)) space) where
+  abbrev half : List ℕ
+  half = front ++ drop n places
+
+  pub fronted : back ≡ column (length (mid_of n (length half - n) half)) v → put_mid n (length half - n) half back ≡ column (length places) v
+  fronted b =
+      let spaces : front ≡ replicate n space = f ∙ ap (λ (k : ℕ). replicate k space) (length-take-le n places (omega arith)) in
+      let long : length front ≡ n = ap length spaces ∙ length-replicate n space in
+      let all : length half ≡ length places = length-append front (drop n places) ∙ omega (arith, long, length-drop n places) in
+      grind (arith, common_steps, spaced, spaces, long, all, b)
 
 pub ruleset placed = (in_place, length-column)
 

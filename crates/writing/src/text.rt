@@ -26,6 +26,11 @@ pub(crate) const ANSWER_LINE_BYTES: usize = FRAME + 4 * ANSWER_WIDTH;
 // The N line: three columns.
 pub(crate) const TALLY_LINE_BYTES: usize = FRAME + 3 * ANSWER_WIDTH;
 
+// So many places a word needs at most, and the first number that needs more.
+const FIVE_PLACES: usize = 5;
+
+const BEYOND_FIVE_PLACES: u64 = 100_000;
+
 // So many numbers a line that is printed has at most.
 pub(crate) const PER_LINE: usize = 8;
 
@@ -43,12 +48,12 @@ fn glyph(v: u64) -> u8
     if v == 0 { b' ' } else { digit(v) }
 }
 
-// v in the places of a column, from the last one to the first: a lone 0 is written, places before the number are spaces. By index: what `iter_mut().rev()`
+// v in these places, from the last one to the first: a lone 0 is written, places before the number are spaces. By index: what `iter_mut().rev()`
 // stores is unknown to a proof, and a call of itself for the places before the last was proved, but K lines took 4 in 100 longer. By hand: of `write!` a proof
 // knows what an `Ok` has written, but never that it is `Ok`, and of a lent slice's bytes nothing; out of a buffer of its own (`itoa`) a number would be copied
 // again, cut to its last places where the column is narrower, and its text related to the column's definition: no plainer.
 #[tactic(auto, unfolding(rules::specs::Text::column))]
-fn fill_column(places: &mut [u8], v: u64)
+fn fill_places(places: &mut [u8], v: u64)
     ensures { places.new ≡ column (length places.old) v }
 {
     if let Some((last, before)) = places.split_last_mut() {
@@ -58,6 +63,29 @@ fn fill_column(places: &mut [u8], v: u64)
             before[i] = glyph(left);
             left /= 10;
         }
+    }
+}
+
+// The same of a number that is seldom met, and out of the way of the others.
+#[inline(never)]
+fn fill_long(places: &mut [u8], v: u64)
+    ensures { places.new ≡ column (length places.old) v }
+{
+    fill_places(places, v);
+}
+
+// v in the places of a column. What fits into the last five, as every word does, is divided for these alone: the places before them are stored at once.
+#[inline(always)]
+#[tactic(auto, using(crate::proofs::Texts::spaced))]
+fn fill_column(places: &mut [u8], v: u64)
+    ensures { places.new ≡ column (length places.old) v }
+{
+    if v < BEYOND_FIVE_PLACES {
+        let spaces = places.len().saturating_sub(FIVE_PLACES);
+        places[..spaces].fill(b' ');
+        fill_places(&mut places[spaces..], v);
+    } else {
+        fill_long(places, v);
     }
 }
 
@@ -87,6 +115,7 @@ impl Cursor<'_> {
         self.at += 1;
     }
 
+    #[inline(always)]
     #[tactic(auto, using(crate::proofs::Texts::placed))]
     fn column(&mut self, width: usize, v: u64)
         requires { Room self.old width }

@@ -1,6 +1,6 @@
 use Rattle.std.proofs.Common.{◌≡◌, ◌++◌, ◌/◌, length, drop}
 use Rattle.rules.specs.Text.{padded}
-use Rattle.writing.proofs.text.fill_column.Given as goal
+use Rattle.writing.proofs.text.fill_places.Given as goal
 
 -- With the places that are left filled, the column stands.
 abbrev pub invariant-loop-i : goal.invariant-loop-i
