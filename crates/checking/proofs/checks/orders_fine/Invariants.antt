@@ -1,5 +1,0 @@
-use Rattle.checking.proofs.HeldOrders.{Walked}
-use Rattle.checking.proofs.checks.orders_fine.Given as goal
-
-abbrev pub invariant-loop-before : goal.invariant-loop-before
-invariant-loop-before l = Walked l.board l.seen l.before l.held
