@@ -3,13 +3,13 @@ use answers::{count_of, refusal_of};
 use board::{Answer, Request, blocked, check};
 use std::io;
 use trial_kit::{
-    BOARD, Tally, WORK, ask, board_size, fill_marks, has_marks, is_cleared, slot_start, word_at,
+    BOARD, Tally, WORK, ask, board_size, fill_marks, has_zeros, slot_start, word_at, work_size,
 };
 
 // The script has refusals by their numbers, as the table of refusals: written out and not the library's own, so that a wrong one there shows.
 const BLOCKED: u16 = 12;
 
-// What a call must answer: the refusal, or 0; the count; and the slots of a list that is blocked.
+// What a call must answer: the refusal, or 0; the count; and so many slots, from the first on, of a list that is blocked.
 #[derive(Clone, Copy)]
 pub struct Expected<'a> {
     refusal: u16,
@@ -37,22 +37,24 @@ impl Expected<'_> {
         }
     }
 
-    // The work words of a board of n slots: unaltered at 3 to 6; else zero, after the blocked slots; and what is beyond their size as it was.
-    fn leaves(&self, work: &[u16], n: u16) -> bool {
+    // The work words of a board of n slots, which were those marks: unaltered at 3 to 6; else zero, after the blocked slots; and what is beyond their size as
+    // it was.
+    fn leaves(&self, work: &[u16], marks: &[u16], n: u16) -> bool {
         match self.refusal {
-            3..=6 => has_marks(work, 0),
-            BLOCKED => is_cleared(work, n, usize::from(self.count)),
-            _ => is_cleared(work, n, 0),
+            3..=6 => work == marks,
+            BLOCKED => is_cleared(work, marks, n, usize::from(self.count)),
+            _ => is_cleared(work, marks, n, 0),
         }
     }
 
     // The list of blocked slots is right, where there is one.
     fn shows(&self, work: &[u16]) -> bool {
-        self.refusal != BLOCKED || blocked(work, usize::from(self.count)) == self.slots
+        let count = usize::from(self.count);
+        self.refusal != BLOCKED || self.slots.get(..count) == Some(blocked(work, count))
     }
 
-    fn work_fault(&self, work: &[u16], n: u16) -> Option<char> {
-        if !self.leaves(work, n) {
+    fn work_fault(&self, work: &[u16], marks: &[u16], n: u16) -> Option<char> {
+        if !self.leaves(work, marks, n) {
             Some('w')
         } else if !self.shows(work) {
             Some('l')
@@ -85,7 +87,15 @@ pub struct Bench {
     lent: Lent,
     // The board as a call must leave it.
     wanted: [u16; BOARD],
+    // What all words are when they are lent: to copy and to compare these takes a fraction of the time that making each mark anew does.
+    marks: [u16; WORK],
     pub tally: Tally,
+}
+
+// Zeros behind the first `shown` words, up to their size, and marks beyond it.
+fn is_cleared(work: &[u16], marks: &[u16], n: u16, shown: usize) -> bool {
+    let size = work_size(n);
+    has_zeros(work, shown, size) && work.get(size..) == marks.get(size..)
 }
 
 // The values go into the words from index `at` on, as far as there are words.
@@ -102,19 +112,22 @@ fn front(words: &[u16], lent: u16) -> &[u16] {
 
 impl Bench {
     pub fn new() -> Bench {
+        let mut marks = [0; WORK];
+        fill_marks(&mut marks);
         Bench {
             board: [0; BOARD],
             work: [0; WORK],
             lent: Lent { board: 0, work: 0 },
             wanted: [0; BOARD],
+            marks,
             tally: Tally::default(),
         }
     }
 
     // All words get their marks, in the expected board too.
     pub fn lend(&mut self, asked: &[u16]) {
-        fill_marks(&mut self.board);
-        fill_marks(&mut self.wanted);
+        self.board.copy_from_slice(&self.marks[..BOARD]);
+        self.wanted = self.board;
         self.lent = Lent {
             board: word_at(asked, 0),
             work: word_at(asked, 1),
@@ -129,7 +142,11 @@ impl Bench {
         }
     }
 
+    // More slots than 1,024 no board has: then the expected one stays.
     pub fn zero(&mut self, n: u16) {
+        if 1024 < n {
+            return;
+        }
         let size = board_size(n).min(BOARD);
         self.wanted[..size].fill(0);
         self.wanted[0] = n;
@@ -171,10 +188,10 @@ impl Bench {
         request: &Request,
         expected: &Expected<'_>,
     ) -> io::Result<()> {
-        fill_marks(&mut self.work);
+        self.work = self.marks;
         let answer = self.lent.ask(request, &mut self.board, &mut self.work);
         let wrong = self.call_fault(answer, expected);
-        let spoilt = expected.work_fault(&self.work, self.wanted[0]);
+        let spoilt = expected.work_fault(&self.work, &self.marks, self.wanted[0]);
         self.tally.note(rt, wrong)?;
         self.tally.note(rt, spoilt)
     }
@@ -187,9 +204,9 @@ impl Bench {
 
     // The blocked list of any length asked for is the beginning of the work words, at most all of them.
     pub fn list(&mut self, rt: &impl Print, asked: u16, expected: u16) -> io::Result<()> {
-        fill_marks(&mut self.work);
+        self.work = self.marks;
         let list = blocked(front(&self.work, self.lent.work), usize::from(asked));
-        let right = list.len() == usize::from(expected) && has_marks(list, 0);
+        let right = self.marks.get(..usize::from(expected)) == Some(list);
         self.tally.check(rt, 's', right)
     }
 }

@@ -2,17 +2,12 @@
 use crate::bench::{Bench, Expected};
 use board::Request;
 use std::{array, io};
-use trial_kit::{numbers, word_at};
+use trial_kit::{EXPECTED, places, word_at};
 use words::{Key, Order};
 
-// How many numbers a line has room for before its arrow, and how many after it.
-const NUMBERS: usize = 64;
-
-// The numbers of a text, which are stored in these words.
-fn read<'a>(text: &[u8], found: &'a mut [u16]) -> &'a [u16] {
-    let count = numbers(text, found);
-    &found[..count]
-}
+// Places of a line's numbers: the first number has place 0, the first behind the arrow place 32. A list of up to 46 blocked slots is compared with places
+// from 34 on: those not given are 0.
+const PLACES: usize = 80;
 
 // Code and number.
 fn key(asked: &[u16]) -> Key {
@@ -38,20 +33,21 @@ fn marked(asked: &[u16]) -> Order {
     }
 }
 
-// What the letter says, with these numbers. A line that is not understood is wrong. The letters are the script's (main.rt): matched as they come, and kept
-// nowhere.
+// What the letter says, with the numbers in these places, which end there. A line that is not understood is wrong. The letters are the script's (main.rt):
+// matched as they come, and kept nowhere.
 fn command(
     rt: &impl Print,
     letter: u8,
-    asked: &[u16],
-    expected: &[u16],
+    asked: &[u16; PLACES],
+    end: usize,
     bench: &mut Bench,
 ) -> io::Result<()> {
-    let first = word_at(asked, 0);
+    let first = asked[0];
+    let expected = &asked[EXPECTED..];
     let answer = Expected::of(expected);
     match letter {
         b'l' => bench.lend(asked),
-        b'g' => bench.given(asked),
+        b'g' => bench.given(&asked[..end.min(PLACES)]),
         b'z' => bench.zero(first),
         b's' => bench.slot(asked),
         b'h' => bench.held(first),
@@ -63,7 +59,7 @@ fn command(
         b'p' => bench.call(rt, &Request::Print, &answer)?,
         b'c' => bench.check(rt, word_at(expected, 0) == 1)?,
         b'b' => bench.list(rt, first, word_at(expected, 0))?,
-        b'#' => {}
+        0 | b'#' => {}
         _ => bench.tally.check(rt, '?', false)?,
     }
     Ok(())
@@ -79,11 +75,7 @@ pub fn perform(rt: &impl Print, line: &[u8], bench: &mut Bench) -> io::Result<()
         rt.write_all(rest)?;
         return bench.tally.tell(rt);
     }
-    let arrow = rest.iter().position(|byte| *byte == b'>');
-    let (asked, expected) = rest.split_at(arrow.unwrap_or(rest.len()));
-    let mut given = [0; NUMBERS];
-    let mut wanted = [0; NUMBERS];
-    let asked = read(asked, &mut given);
-    let expected = read(expected, &mut wanted);
-    command(rt, *letter, asked, expected, bench)
+    let mut found = [0; PLACES];
+    let end = places(rest, &mut found);
+    command(rt, *letter, &found, end, bench)
 }

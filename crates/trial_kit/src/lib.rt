@@ -10,8 +10,8 @@ mod tallies;
 mod texts;
 
 pub use asks::ask;
-pub use marks::{fill_marks, has_marks, has_zeros, is_cleared};
+pub use marks::{fill_marks, has_marks, has_zeros, is_cleared, work_size};
 pub use seeds::Seed;
 pub use slots::{BOARD, STARTED, Slot, WORK, board_size, slot_at, slot_start, word_at};
 pub use tallies::{Score, Tally};
-pub use texts::numbers;
+pub use texts::{EXPECTED, numbers, places};

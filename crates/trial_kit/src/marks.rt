@@ -36,7 +36,8 @@ pub fn has_zeros(words: &[u16], from: usize, to: usize) -> bool
     words.iter().take(to).skip(from).all(|word| *word == 0)
 }
 
-fn work_size(n: u16) -> usize
+// How many work words a board of n slots has.
+pub fn work_size(n: u16) -> usize
     ensures { result ≡ work_size n }
 {
     14 * usize::from(n) + 4

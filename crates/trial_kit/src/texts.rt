@@ -1,7 +1,7 @@
 // The numbers of a line.
 ghost use Rattle.std.specs.Prelude.{◌≡◌, ◌≤◌, None, length, min, set, suc};
 ghost use Rattle.std.proofs.lemmas.List.Edits.{sets};
-ghost use Rattle.trial_kit.specs.Texts.{numbers_of};
+ghost use Rattle.trial_kit.specs.Texts.{numbers_of, after_byte, next_place, places, spelt};
 ghost use Rattle.trial_kit.specs.Texts.{longer as longer_by};
 
 // The value with one digit more, or 0 where that is more than a word holds: no Option, which would go through every number of a line, since a script
@@ -46,4 +46,44 @@ pub fn numbers(text: &[u8], found: &mut [u16]) -> usize
         count = store(found, count, number);
     }
     count
+}
+
+// Where the numbers behind an arrow go.
+pub const EXPECTED: usize = 32;
+
+const LAST_PLACE: usize = 60;
+
+// The place of the next digit after a byte, before the rest of the text.
+fn next_place(byte: u8, rest: &[u8], at: usize) -> usize
+    ensures { result ≡ next_place byte rest.now at }
+{
+    if byte == b'>' {
+        return EXPECTED;
+    }
+    if !byte.is_ascii_digit() || rest.first().is_some_and(u8::is_ascii_digit) || LAST_PLACE <= at {
+        return at;
+    }
+    at + 1
+}
+
+// A digit goes to the number at its place.
+fn take_byte(byte: u8, at: usize, found: &mut [u16])
+    ensures { found.new ≡ after_byte byte at found.old }
+{
+    if byte.is_ascii_digit() && at < found.len() {
+        found[at] = longer(found[at], byte);
+    }
+}
+
+// The numbers of a line go to their places: the place behind the last of them. A place that is come to again has its number gone on with.
+pub fn places(text: &[u8], found: &mut [u16]) -> usize
+    ensures place { result ≡ places 0 text.now }
+    ensures stored { found.new ≡ spelt 0 text.now found.old }
+{
+    let mut at = 0;
+    for (i, &byte) in text.iter().enumerate() {
+        take_byte(byte, at, found);
+        at = next_place(byte, &text[i + 1..], at);
+    }
+    at
 }

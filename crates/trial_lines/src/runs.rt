@@ -93,6 +93,8 @@ impl Run {
     }
 }
 
+// A function of its own, here and below: three runs in one frame take three times the stack.
+#[inline(never)]
 fn run_lines(rt: &impl Print, input: &[u8]) -> io::Result<()> {
     println!(rt; "line by line")?;
     let mut run = Run::new();
@@ -100,6 +102,7 @@ fn run_lines(rt: &impl Print, input: &[u8]) -> io::Result<()> {
     run.close(rt)
 }
 
+#[inline(never)]
 fn run_pieces(rt: &impl Print, input: &[u8], piece: usize) -> io::Result<()>
     requires { 0 < piece }
 {
