@@ -38,6 +38,9 @@ before-is (b ∷ l) zero low e h = rw (eq-eqb b line_feed e)
 before-is (b ∷ l) (suc k) low e h = rw (ne_eqb b line_feed (h 0 (omega arith))) (ap suc (before-is l k (omega arith) e (λ j under. h (suc j) (omega arith))))
 
 module _ (s : List ℕ) (i : ℕ) where
+  pub end-past : length s ≤ i → line_end s i ≡ i
+  end-past h = omega (arith, before-within (drop i s), length-drop i s)
+
   pub end-within : i ≤ length s → line_end s i ≤ length s
   end-within h = omega (arith, before-within (drop i s), length-drop i s)
 

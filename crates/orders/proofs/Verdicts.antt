@@ -36,5 +36,8 @@ module _ (n : ℕ) (k : Key) (c : ℕ) (row : List ℕ) where
     pub fine : (more : List Check) → first (order_checks n k c row more) ≡ first more
     fine more = after-fine (order_checks n k c row []) tt more e
 
+    pub fine-named : 1 ≤ k.number
+    fine-named = grind (arith, nat_tests)
+
     pub fine-count : (1 ≤ c) × (c ≤ most_choices)
     fine-count = grind (arith, nat_tests)

@@ -1,5 +1,5 @@
 -- A line as the reader gives it: its kind and numbers, or the refusal of document 01's table. Bytes are without the line feed.
-use Rattle.std.specs.Prelude.{cond, List, ◌++◌, ℕ, ◌-◌, Option, Some, None, Result, Err, min, eqb, take, get_or, replicate}
+use Rattle.std.specs.Prelude.{cond, List, ◌++◌, ℕ, ◌-◌, Option, Some, None, Result, Ok, Err, min, eqb, take, get_or, replicate}
 use Rattle.std.specs.Option.{ok_or, option_map}
 use Rattle.rules.specs.InputLines.{letter_of, column_count, most_columns, allowed, values, line_refusal}
 use Rattle.rules.specs.Layout.{most_choices, reads}
@@ -54,6 +54,11 @@ unfoldable pub line_of : List ℕ → Result Line Refusal
 line_of l =
     let code = line_refusal l in
     cond (eqb code 0) (ok_or (option_map (line_read l) (kind_of (letter_of l))) Malformed) (Err (refused_as code))
+
+-- the letter of a line's answer: "the line's letter (X for refusals 1 and 2)"
+abbrev pub answer_letter : Result Line Refusal → Letter
+answer_letter (Ok line) = kind_letter line.kind
+answer_letter (Err _) = letter_x
 
 -- the order that a line's numbers give: "a customer code as first column" (P3), the order's number, "then its slots". It is not started.
 abbrev pub line_order : Line → Order

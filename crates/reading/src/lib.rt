@@ -4,7 +4,7 @@
 ghost use Rattle.std.specs.Prelude.{◌≡◌, [], ◌∷◌, ◌≤◌, drop, slice_get, take};
 ghost use Rattle.rules.specs.InputLines.{column_bytes, most_columns};
 ghost use Rattle.rules.specs.Letters.{byte_of, letter_named};
-ghost use Rattle.reading.specs.Reading.{kind_letter, class_of, line_of, line_order};
+ghost use Rattle.reading.specs.Reading.{answer_letter, kind_letter, class_of, line_of, line_order};
 ghost use Rattle.reading.specs.Reader.{after_letter, past_columns, after_columns, Moves};
 ghost use Rattle.reading.specs.Machine.{step_of, held_by, ended, cell_of, columns_at, gathered, narrowed};
 
@@ -89,6 +89,16 @@ impl Line {
         let [_code, _number, a, b, c, d, e, f, g, h, _ninth] = self.columns;
         let slots = self.count.min(MOST_COLUMNS).saturating_sub(KEY_COLUMNS);
         Order::new(self.key(), slots as u16, [a, b, c, d, e, f, g, h])
+    }
+}
+
+// The letter of a line's answer, of a line that is not read too: "the line's letter (X for refusals 1 and 2)".
+pub fn answer_letter(line: &Result<Line, Refusal>) -> u8
+    ensures { result ≡ byte_of (answer_letter line.now) }
+{
+    match line {
+        Ok(read) => read.kind.letter(),
+        Err(_) => b'X',
     }
 }
 
